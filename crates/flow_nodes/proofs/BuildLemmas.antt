@@ -1,0 +1,54 @@
+-- The nodes of a run at its start.
+use Rattle.std.proofs.Common.{◌≡◌, ℕ, suc, ◌+◌, ◌<◌, ltb, eqb, Bool, true, false, ◌||◌, ◌&&◌, Option, Some, None, List, [], ◌∷◌, ◌++◌, length, drop, map, replicate, refl, sym, ap, ◌∙◌, arith, append_assoc}
+use Rattle.std.specs.Prelude.{slice_get}
+use Rattle.flow_item.specs.Lists.{map_places}
+use Rattle.flow_item.proofs.Places.{slice_get-below}
+use Rattle.flow_shape.specs.declared.Kind.{Kind}
+use Rattle.flow_shape.specs.declared.Kind.TheVariants as K
+use Rattle.flow_shape.specs.declared.Shape.{Shape}
+use Rattle.flow_machine.specs.State.{PlacedNode}
+use Rattle.flow_machine.specs.State.{start_part}
+use Rattle.flow_machine.specs.Wishes.{is_ready}
+use Rattle.flow_node.specs.Readied.{Readied, is_waiting}
+use Rattle.std.proofs.lemmas.Bool.{ltb-true}
+use Rattle.flow_shape.specs.declared.Step.{Step}
+use Rattle.flow_nodes.specs.Stepping.{node_of}
+use Rattle.flow_nodes.specs.Rows.{node_at, nodes_of}
+use Rattle.flow_node.proofs.WireLemmas.{drop-at}
+
+-- one more node made
+pub nodes-more : (shape : Shape) (n : ℕ) (k : Kind) (v : PlacedNode) (old all : List PlacedNode) → slice_get shape.nodes n ≡ Some k → v ≡ node_at shape [] n k
+    → old ++ map_places (node_at shape []) n (drop n shape.nodes) ≡ all → (old ++ v ∷ []) ++ map_places (node_at shape []) (n + 1) (drop (n + 1) shape.nodes) ≡ all
+nodes-more shape n k v old all at is before =
+    let next : n + 1 ≡ suc n = omega arith in
+    rw next (append_assoc old (v ∷ []) (map_places (node_at shape []) (suc n) (drop (suc n) shape.nodes))
+    ∙ ap (λ w. old ++ w ∷ map_places (node_at shape []) (suc n) (drop (suc n) shape.nodes)) is
+    ∙ ap (λ ks. old ++ map_places (node_at shape []) n ks) (sym (drop-at shape.nodes n k at))
+    ∙ before)
+
+-- no node waits at the start
+start-ready : (k : Kind) → is_ready (start_part k) ≡ false
+start-ready (K.Queue c) = refl
+start-ready k = refl
+
+start-quiet : (shape : Shape) (n : ℕ) (ks : List Kind) → map is_waiting (map_places (node_at shape []) n ks) ≡ replicate (length ks) false
+start-quiet shape n [] = refl
+start-quiet shape n (k ∷ ks) =
+    let front : is_waiting (node_at shape [] n k) ≡ false = start-ready k in
+    let rest = start-quiet shape (suc n) ks in
+    cc
+
+pub flags-at-start : (shape : Shape) (vs : List PlacedNode) → vs ≡ nodes_of shape [] → replicate (length vs) false ≡ map is_waiting vs
+flags-at-start shape vs is = rw is (ap (λ n. replicate n false) (length-places 0 shape.nodes) ∙ sym (start-quiet shape 0 shape.nodes))
+  where
+    length-places : (n : ℕ) (ks : List Kind) → length (map_places (node_at shape []) n ks) ≡ length ks
+    length-places n [] = refl
+    length-places n (k ∷ ks) = ap suc (length-places (suc n) ks)
+
+-- a place below the length has a member
+pub in-range : {X : Type 0} (xs : List X) (n : ℕ) → n < length xs → slice_get xs n ≡ None → ⊥
+in-range xs n short h = let found = slice_get-below xs n short in clash (slice_get xs n) found.0 found.1 h
+  where
+    clash : {X : Type 0} (o : Option X) (x : X) → o ≡ Some x → o ≡ None → ⊥
+    clash None x e h = cc
+    clash (Some y) x e h = cc

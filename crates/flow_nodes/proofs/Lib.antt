@@ -1,0 +1,5 @@
+pub mod BuildLemmas
+pub mod DueLemmas
+pub mod ListLemmas
+pub mod RowLemmas
+pub mod StepLemmas

@@ -1,0 +1,3 @@
+pub mod DueSets
+pub mod Rows
+pub mod Stepping

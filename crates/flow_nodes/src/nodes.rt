@@ -1,0 +1,158 @@
+ghost use Rattle.std.specs.Prelude.{◌≡◌, ◌<◌, true, false, List, length, map, slice_get, OnOk, OnErr, Some, None};
+ghost use Rattle.std.specs.Option.{option_copied};
+ghost use Rattle.flow_machine.specs.WishEvents.{where_some};
+ghost use Rattle.flow_item.specs.Events.{parties_of, both};
+ghost use Rattle.flow_node.specs.Readied.{Readied, handed, handed_out, is_waiting};
+ghost use Rattle.flow_nodes.specs.DueSets.{least_of};
+ghost use Rattle.flow_nodes.specs.Stepping.{node_of, ChangesAt, HasRoomAt, MayStepAt, same_node, after_event, CanApply, all_stepped, brought, is_node};
+
+use crate::due::DueSet;
+use flow_item::{Event, NoMemory, Parties, Party, Val};
+use flow_node::NodeState;
+use std::marker::Model;
+
+/// The nodes of a run, in the order of their numbers.
+#[derive(Drop)]
+pub struct Nodes {
+    nodes: Vec<NodeState>,
+    due: DueSet,
+}
+
+impl Model for Nodes {
+    ghost use Rattle.std.specs.Prelude.{◌≡◌, List, map};
+    ghost use Rattle.std.specs.Coded.{codes, coded_list};
+    ghost use Rattle.flow_item.specs.contracts.val.Val as val;
+    ghost use Rattle.flow_node.specs.Readied.{Readied, is_waiting};
+    ghost use Rattle.flow_nodes.specs.Stepping.{node_of};
+
+    ghost Value = { List Readied };
+
+    ghost coded = { Prim.hlevel (codes, val.the_row.coded) };
+
+    ghost view = { λ a. a.nodes.items };
+
+    ghost invariant = { λ a. a.due ≡ map is_waiting (map node_of a.nodes.items) };
+}
+
+impl Nodes {
+    /// The nodes, with the set of those that wait.
+    pub fn from_parts(nodes: Vec<NodeState>, due: DueSet) -> Nodes
+        requires { due ≡ map is_waiting (map node_of nodes.items) }
+        ensures { result ≡ nodes.items }
+    {
+        Nodes { nodes, due }
+    }
+
+    /// The least node that is due or has a ready body.
+    pub fn first_waiting(&self) -> Option<usize>
+        ensures { result ≡ least_of 0 (map is_waiting (map node_of self.now)) }
+    {
+        let _ = &self.nodes;
+        self.due.least()
+    }
+
+    /// The node of this number.
+    pub fn node(&self, at: usize) -> &NodeState
+        requires { at < length self.now }
+        ensures { slice_get self.now at ≡ Some result.now }
+    {
+        &self.nodes[at]
+    }
+
+    /// The node of this number, where there is one.
+    pub fn find(&self, at: Option<u32>) -> Option<&NodeState>
+        ensures { option_copied result ≡ where_some at (slice_get self.now) }
+    {
+        match at {
+            Some(at) => self.nodes.get(at as usize),
+            None => None,
+        }
+    }
+
+    /// Makes room at a node for what the event brings.
+    pub fn prepare(&mut self, at: usize, e: &Event) -> Result<(), NoMemory>
+        requires { at < length self.old }
+        ensures same { ChangesAt self.old self.new at same_node }
+        ensures ok { OnOk result (HasRoomAt self.new at e.now) }
+    {
+        let node = &mut self.nodes[at];
+        node.prepare(e)
+    }
+
+    /// A node after an event of which it is a party. It is handed the value that comes to it, and hands out the one that leaves.
+    pub fn step(&mut self, at: usize, e: &Event, cargo: Option<Val>) -> Option<Val>
+        requires within { at < length self.old }
+        requires may { MayStepAt self.old at e.now }
+        requires ready { HasRoomAt self.old at e.now }
+        requires handed { cargo ≡ handed at e.now }
+        ensures node { ChangesAt self.old self.new at (after_event e.now) }
+        ensures out { result ≡ handed_out at e.now }
+    {
+        let node = &mut self.nodes[at];
+        let out = node.apply(e, cargo);
+        let waiting = node.is_waiting();
+        self.due.set(at, waiting);
+        out
+    }
+
+    /// As `step`, where nothing leaves the node.
+    fn end_step(&mut self, at: usize, e: &Event, cargo: Option<Val>)
+        requires within { at < length self.old }
+        requires may { MayStepAt self.old at e.now }
+        requires ready { HasRoomAt self.old at e.now }
+        requires handed { cargo ≡ handed at e.now }
+        ensures { ChangesAt self.old self.new at (after_event e.now) }
+    {
+        let _ = self.step(at, e, cargo);
+    }
+
+    /// The nodes after an event between two of them.
+    fn apply_two(&mut self, a: u32, b: u32, e: &Event) -> Result<(), NoMemory>
+        requires parties { parties_of e.now ≡ both (Party.Node a) (Party.Node b) }
+        requires can { CanApply self.old e.now }
+        ensures ok { OnOk result (map node_of self.new ≡ all_stepped e.now (map node_of self.old)) }
+        ensures err { OnErr result (map node_of self.new ≡ map node_of self.old) }
+    {
+        if let Err(refused) = self.prepare(a as usize, e) {
+            return Err(refused);
+        }
+        if let Err(refused) = self.prepare(b as usize, e) {
+            return Err(refused);
+        }
+        let cargo = self.step(a as usize, e, None);
+        self.end_step(b as usize, e, cargo);
+        Ok(())
+    }
+
+    /// The nodes after an event of one of them.
+    fn apply_one(&mut self, a: u32, e: &Event, cargo: Option<Val>) -> Result<(), NoMemory>
+        requires first { (parties_of e.now).first ≡ Party.Node a }
+        requires second { is_node (parties_of e.now).second ≡ false }
+        requires can { CanApply self.old e.now }
+        requires cargo { cargo ≡ brought e.now }
+        ensures ok { OnOk result (map node_of self.new ≡ all_stepped e.now (map node_of self.old)) }
+        ensures err { OnErr result (map node_of self.new ≡ map node_of self.old) }
+    {
+        if let Err(refused) = self.prepare(a as usize, e) {
+            return Err(refused);
+        }
+        self.end_step(a as usize, e, cargo);
+        Ok(())
+    }
+
+    /// The nodes after an event, with the value that it brings from outside them.
+    pub fn apply(&mut self, e: &Event, cargo: Option<Val>) -> Result<(), NoMemory>
+        requires can { CanApply self.old e.now }
+        requires cargo { cargo ≡ brought e.now }
+        ensures ok { OnOk result (map node_of self.new ≡ all_stepped e.now (map node_of self.old)) }
+        ensures err { OnErr result (map node_of self.new ≡ map node_of self.old) }
+    {
+        let Parties { first, second } = e.parties();
+        match (first, second) {
+            (Party::Node(a), Some(Party::Node(b))) => self.apply_two(a, b, e),
+            (Party::Node(a), _) => self.apply_one(a, e, cargo),
+            (Party::Caller(_), _) => Ok(()),
+            (Party::Worker(_), _) => Ok(()),
+        }
+    }
+}

@@ -1,0 +1,41 @@
+-- A run at its start.
+use Rattle.std.proofs.Common.{◌≡◌, ℕ, suc, ◌+◌, ◌<◌, ltb, eqb, Bool, true, false, ◌||◌, ◌&&◌, Option, Some, None, List, [], ◌∷◌, ◌++◌, length, drop, map, replicate, refl, sym, ap, ◌∙◌, arith, append_assoc}
+use Rattle.std.specs.Prelude.{slice_get}
+use Rattle.flow_item.specs.Lists.{map_places}
+use Rattle.flow_item.proofs.Places.{slice_get-below}
+use Rattle.flow_shape.specs.declared.Kind.{Kind}
+use Rattle.flow_shape.specs.declared.Kind.TheVariants as K
+use Rattle.flow_shape.specs.declared.Shape.{Shape}
+use Rattle.flow_machine.specs.State.{PlacedNode}
+use Rattle.flow_machine.specs.State.{start_part}
+use Rattle.flow_machine.specs.Wishes.{is_ready}
+use Rattle.flow_node.specs.Readied.{Readied, is_waiting}
+use Rattle.std.proofs.lemmas.Bool.{ltb-true}
+use Rattle.flow_shape.specs.declared.Step.{Step}
+use Rattle.flow_nodes.specs.Stepping.{node_of}
+use Rattle.flow_nodes.specs.Rows.{node_at, nodes_of}
+use Rattle.flow_work.specs.Runs.{is_behind, IsRunnable, IsKept}
+use Rattle.flow_node.proofs.WireLemmas.{drop-at}
+
+nothing-behind : (c k : ℕ) → is_behind 0 0 c k ≡ true → ⊥
+nothing-behind c k h = by_first (ltb c 0) refl (eqb c 0) h
+  where
+    by_first : (b : Bool) → ltb c 0 ≡ b → (d : Bool) → (b || (d && ltb k 0)) ≡ true → ⊥
+    by_first true e d h = let never : c < 0 = ltb-true _ _ e in absurd (omega arith)
+    by_first false e true h = let never : k < 0 = ltb-true _ _ h in absurd (omega arith)
+    by_first false e false h = cc
+
+-- a run at its start
+pub kept-at-start : (shape : Shape) (callers : List (List Step)) (items events : ℕ) (nodes : List Readied) → IsRunnable shape callers → map node_of nodes ≡ nodes_of shape [] → IsKept (record { shape = shape; callers = callers; items = items; events = events; journal = [] }) nodes 0 0 0
+kept-at-start shape callers items events nodes can seen = record {
+  runnable = can;
+  journal = record { run = refl; scheduled = refl; within = omega arith };
+  nodes_are = seen;
+  births_are = refl;
+  cursor = record {
+    done = λ c steps before at. absurd (omega (arith, before));
+    here = λ steps at. record { left = refl; whole = refl; stays = refl; within = omega arith };
+    later = λ c after. refl;
+    waited = λ c steps k at wait behind. absurd (nothing-behind c k behind);
+  };
+}
