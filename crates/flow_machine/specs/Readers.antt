@@ -9,7 +9,7 @@ use Rattle.flow_machine.specs.State.{Cast, Part, store_part, keeper_part, body_p
 use Rattle.flow_machine.specs.Offers.{next_tuple}
 use Rattle.flow_machine.specs.Enabled.{is_numbered}
 use Rattle.flow_machine.specs.WishEvents.{id_of, where_some}
-use Rattle.flow_machine.specs.Ledger.{all_of}
+use Rattle.flow_machine.specs.Ledger.{flattened}
 use Rattle.flow_machine.specs.PrintOrder.{items_in_order}
 
 -- the items that a node has beside those of its casts: stored or kept, of its bodies and tickets, at its ports
@@ -17,7 +17,7 @@ abbrev pub items_of : Part → List Item
 items_of (store_part s) = s.items
 items_of (keeper_part v) = option_list v.value
 items_of (body_part w) = w.waiting ++ w.ready ++ w.running ++ w.tickets
-items_of (join_part j) = all_of j.ports
+items_of (join_part j) = flattened j.ports
 items_of (split_part p) = p.waiting
 items_of p = []
 
