@@ -22,7 +22,7 @@ use Rattle.flow_shape.proofs.Valid.{link-edge, valid-joins_two}
 use Rattle.flow_machine.specs.State.{PlacedNode, NodeState}
 use Rattle.flow_machine.specs.After.{after, link_of}
 use Rattle.flow_machine.specs.Machine.{allows, node_allows, is_legal, may_follow, is_of_run, state_of}
-use Rattle.flow_machine.specs.Schedule.{is_next, goes_on, is_scheduled}
+use Rattle.flow_machine.specs.Schedule.{is_next, is_scheduled_after, is_scheduled}
 use Rattle.flow_machine.proofs.Steps.{HasLink, state_of-snoc, may_follow-linked}
 use Rattle.flow_machine.proofs.Local.{may_follow-allows_at}
 use Rattle.flow_node.specs.Built.{is_built}
