@@ -7,7 +7,7 @@ use Rattle.flow_item.specs.Lists.{has}
 use Rattle.flow_item.proofs.Tests.{and_left, and_right, both_true}
 use Rattle.flow_shape.specs.declared.Edge.{Edge}
 use Rattle.flow_shape.specs.declared.Shape.{Shape}
-use Rattle.flow_shape.specs.Wiring.{passes, at_edge}
+use Rattle.flow_shape.specs.Wiring.{is_some_and, at_edge}
 use Rattle.flow_shape.specs.Rules.{each_below, joins_nodes, IsValid}
 use Rattle.flow_shape.specs.Orders.{stands_before, has_no_double, is_order, leads, HasCycle, Sorts}
 use Rattle.flow_shape.specs.Sorting.{waits, sourced, Sorting}
@@ -171,7 +171,7 @@ module _ (shape : Shape) (counts order : List ℕ) (joined : list_all (joins_nod
   one-step a b xs c st h =
       let from : eqb st.1.from a ≡ true = eq-eqb _ _ st.3 in
       let rest : leads shape xs st.1.to c ≡ true = ap (λ n. leads shape xs n c) st.4 ∙ h in
-      ap (passes (λ (e : Edge). eqb e.from a && leads shape xs e.to c)) st.2 ∙ both_true from rest
+      ap (is_some_and (λ (e : Edge). eqb e.from a && leads shape xs e.to c)) st.2 ∙ both_true from rest
 
   reach : (a y : ℕ) (bs : List ℕ) → Trail a bs → has bs y ≡ true → (x : ℕ) × (xs : List ℕ) × (leads shape (x ∷ xs) a y ≡ true)
   reach a y [] t h = cc
