@@ -5,7 +5,7 @@ use Rattle.flow_node.specs.Readied.{Readied}
 use Rattle.std.proofs.lemmas.Bool.{ltb-true}
 use Rattle.flow_shape.specs.declared.Step.{Step}
 use Rattle.flow_nodes.specs.Stepping.{node_of}
-use Rattle.flow_nodes.specs.Rows.{node_at, nodes_of}
+use Rattle.flow_nodes.specs.Rows.{nodes_of}
 use Rattle.flow_work.proofs.LimitLemmas.{within-at-start}
 use Rattle.flow_work.specs.Runs.{is_behind, IsRunnable, IsKept}
 
