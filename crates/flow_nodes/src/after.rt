@@ -5,11 +5,11 @@ ghost use Rattle.flow_shape.specs.Rules.{IsValid};
 ghost use Rattle.flow_machine.specs.Machine.{is_legal};
 ghost use Rattle.flow_node.specs.Built.{is_built};
 ghost use Rattle.flow_nodes.specs.Rows.{nodes_of};
-ghost use Rattle.flow_nodes.specs.Stepping.{node_of, brought};
+ghost use Rattle.flow_nodes.specs.Stepping.{node_of};
 
 use crate::build::start;
 use crate::nodes::Nodes;
-use flow_item::{Event, Journal, NoMemory, PutAnswer, Val};
+use flow_item::{Event, Journal, NoMemory};
 use flow_shape::Shape;
 use std::alloc::Global;
 
@@ -23,21 +23,7 @@ fn event_at(journal: &Journal, at: usize) -> &Event
     }
 }
 
-// A copy of the value that the event brings from outside the nodes: that of a put which a node accepts.
-fn copy_brought(alloc: Global, e: &Event) -> Result<Option<Val>, NoMemory>
-    ensures { IfOk result (λ val. val ≡ brought e.now) }
-{
-    match e {
-        Event::Put {
-            val,
-            answer: PutAnswer::Accepted { .. },
-            ..
-        } => Ok(Some(val.copy(alloc)?)),
-        _ => Ok(None),
-    }
-}
-
-/// The nodes after a legal journal. Takes the time of its events, and copies the value of each accepted put once.
+/// The nodes after a legal journal. Takes the time of its events, and copies each value that comes to a node.
 pub fn replay(alloc: Global, shape: &Shape, journal: &Journal) -> Result<Nodes, NoMemory>
     requires valid { IsValid shape.now }
     requires built { list_all is_built shape.now.nodes ≡ true }
@@ -47,8 +33,7 @@ pub fn replay(alloc: Global, shape: &Shape, journal: &Journal) -> Result<Nodes, 
     let mut nodes = start(alloc, shape)?;
     for at in 0..journal.len() {
         let e = event_at(journal, at);
-        let cargo = copy_brought(alloc, e)?;
-        nodes.apply(e, cargo)?;
+        nodes.apply(e)?;
     }
     Ok(nodes)
 }

@@ -5,12 +5,12 @@ use Rattle.flow_nodes.proofs.RowLemmas.{can-apply, nodes_of-snoc}
 use Rattle.flow_nodes.proofs.ReplayLemmas.{taken, legal-next}
 use Rattle.flow_nodes.proofs.after.replay.Goals as goal
 
-pub apply-requires-clause-can : goal.apply-requires-clause-can
-apply-requires-clause-can c =
+pub apply-requires : goal.apply-requires
+apply-requires c =
     let es = c.args.journal.now in
     let e = c.event_at-e.result.now in
     let next = legal-next c.args.shape.now es c.loop-at.at e c.requires.legal c.event_at-e.ensures in
-    can-apply c.args.shape.now (take c.loop-at.at es) e c.loop-at.nodes c.loop-at.invariant c.requires.valid c.requires.built next.0 next.1
+    record { can = can-apply c.args.shape.now (take c.loop-at.at es) e c.loop-at.nodes c.loop-at.invariant c.requires.valid c.requires.built next.0 next.1 }
 
 pub loop-at-preserved : goal.loop-at-preserved
 loop-at-preserved c =
