@@ -1,0 +1,63 @@
+-- an input that is cancelled while its body runs still takes the message, and starts no more
+use Rattle.std.specs.Prelude.{◌≡◌, ℕ, true, false, Some, None, List, [], ◌∷◌, ◌++◌, take}
+use Rattle.std.proofs.Common.{refl}
+use Rattle.flow_item.specs.declared.event.Event.{Event}
+use Rattle.flow_item.specs.Values.{lists_compute}
+use Rattle.flow_shape.specs.declared.Shape.{Shape}
+use Rattle.flow_shape.specs.declared.Step.{Step}
+use Rattle.flow_shape.specs.declared.Step.TheVariants as T
+use Rattle.flow_shape.specs.declared.Kind.TheVariants as K
+use Rattle.flow_item.specs.Events.{births}
+use Rattle.flow_machine.specs.Machine.{is_run, may_follow, open_after, modes_agree}
+use Rattle.flow_machine.specs.Reservations.{holds_match, limits_kept, passes_limit}
+use Rattle.flow_machine.specs.Ledger.{tally_of, kept_of, adds_up}
+use Rattle.flow_machine.specs.Scripts.{scripts_kept}
+use Rattle.flow_machine.specs.Bodies.{bodies_kept}
+use Rattle.flow_machine.specs.Schedule.{is_scheduled}
+use Rattle.flow_vectors.specs.Builtin.{builtin}
+use Rattle.flow_vectors.specs.Lines.{int, below, text, values, kept, eaten, lost, over, ended_out, ended_lost, ended_won, ended_failed, id, link, msg, edge, put, put_busy, put_full, put_set, put_duplicate, act, leave, cancel, give, refuse, none, hold, take, free, start, end, back, form, split, shut, idle}
+
+abbrev shape : Shape
+shape = record { nodes = ((K.Input 8 (int 9)) ∷ (K.Queue None) ∷ []); edges = (edge 0 0 1 0 ∷ []) }
+
+abbrev scripts : List (List Step)
+scripts = (((T.Act 0) ∷ (T.Cancel) ∷ []) ∷ [])
+
+abbrev journal : List Event
+journal = ((act 0 0) ∷ (start 1 0 0) ∷ (cancel 0 0 0) ∷ (end 1 0 0 0 (msg 0 0 (int 0) ∷ [])) ∷ (give 0 0 1 0 0 0 kept 0 (int 0)) ∷ (shut 0 0 ended_out) ∷ (idle 0) ∷ (idle 1) ∷ (leave 0) ∷ [])
+
+legal : is_run shape 1 2 journal ≡ true
+unfolding lists_compute
+legal = refl
+
+few_workers : is_run shape 1 1 journal ≡ false
+unfolding lists_compute
+few_workers = refl
+
+opening : open_after shape journal ≡ 0
+unfolding lists_compute
+opening = refl
+
+agreeing : modes_agree shape journal ≡ true
+unfolding lists_compute
+agreeing = refl
+
+matching : holds_match shape journal ≡ true
+unfolding lists_compute
+matching = refl
+
+adding : adds_up shape journal ≡ true
+unfolding lists_compute
+adding = refl
+
+limited : limits_kept shape journal ≡ true
+unfolding lists_compute
+limited = refl
+
+scripted : scripts_kept shape scripts journal ≡ true
+unfolding lists_compute
+scripted = refl
+
+answered : bodies_kept builtin shape journal ≡ true
+unfolding lists_compute
+answered = refl
