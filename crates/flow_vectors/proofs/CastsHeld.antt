@@ -1,5 +1,5 @@
 -- what a function, an input and a queueing join offer is held, taken and freed
-use Rattle.std.specs.Prelude.{◌≡◌, ℕ, true, false, Some, None, List, [], ◌∷◌, ◌++◌, take}
+use Rattle.std.specs.Prelude.{◌≡◌, ℕ, true, false, Some, None, List, [], ◌∷◌, ◌++◌, take as first_of}
 use Rattle.std.proofs.Common.{refl}
 use Rattle.flow_item.specs.declared.event.Event.{Event}
 use Rattle.flow_item.specs.Values.{lists_compute}
@@ -9,7 +9,8 @@ use Rattle.flow_shape.specs.declared.Step.TheVariants as T
 use Rattle.flow_shape.specs.declared.Kind.TheVariants as K
 use Rattle.flow_item.specs.Events.{births}
 use Rattle.flow_machine.specs.Machine.{is_run, may_follow, open_after, modes_agree}
-use Rattle.flow_machine.specs.Reservations.{holds_match, limits_kept, passes_limit}
+use Rattle.flow_machine.specs.Reservations.{holds_match}
+use Rattle.flow_machine.specs.Limits.{limits_kept, passes_limit}
 use Rattle.flow_machine.specs.Ledger.{tally_of, kept_of, adds_up}
 use Rattle.flow_machine.specs.Scripts.{scripts_kept}
 use Rattle.flow_machine.specs.Bodies.{bodies_kept}
@@ -115,71 +116,71 @@ unfolding lists_compute
 kept_5 = refl
 
 -- start with another item
-wrong_0 : may_follow shape (take 4 journal) (start 0 0 1) ≡ false
+wrong_0 : may_follow shape (first_of 4 journal) (start 0 0 1) ≡ false
 unfolding lists_compute
 wrong_0 = refl
 
 -- end with another item
-wrong_1 : may_follow shape (take 5 journal) (end 0 0 1 1 (msg 0 0 (int 2) ∷ [])) ≡ false
+wrong_1 : may_follow shape (first_of 5 journal) (end 0 0 1 1 (msg 0 0 (int 2) ∷ [])) ≡ false
 unfolding lists_compute
 wrong_1 = refl
 
 -- end with another first
-wrong_2 : may_follow shape (take 5 journal) (end 0 0 0 2 (msg 0 0 (int 2) ∷ [])) ≡ false
+wrong_2 : may_follow shape (first_of 5 journal) (end 0 0 0 2 (msg 0 0 (int 2) ∷ [])) ≡ false
 unfolding lists_compute
 wrong_2 = refl
 
 -- the node isn't at rest: it has a take to make
-early_3 : may_follow shape (take 15 journal) (idle 2) ≡ false
+early_3 : may_follow shape (first_of 15 journal) (idle 2) ≡ false
 unfolding lists_compute
 early_3 = refl
 
 -- take with another link edge
-wrong_4 : may_follow shape (take 15 journal) (take 1 0 2 0 1) ≡ false
+wrong_4 : may_follow shape (first_of 15 journal) (take 1 0 2 0 1) ≡ false
 unfolding lists_compute
 wrong_4 = refl
 
 -- take with another link from
-wrong_5 : may_follow shape (take 15 journal) (take 0 1 2 0 1) ≡ false
+wrong_5 : may_follow shape (first_of 15 journal) (take 0 1 2 0 1) ≡ false
 unfolding lists_compute
 wrong_5 = refl
 
 -- take with another link to
-wrong_6 : may_follow shape (take 15 journal) (take 0 0 3 0 1) ≡ false
+wrong_6 : may_follow shape (first_of 15 journal) (take 0 0 3 0 1) ≡ false
 unfolding lists_compute
 wrong_6 = refl
 
 -- take with another link port
-wrong_7 : may_follow shape (take 15 journal) (take 0 0 2 1 1) ≡ false
+wrong_7 : may_follow shape (first_of 15 journal) (take 0 0 2 1 1) ≡ false
 unfolding lists_compute
 wrong_7 = refl
 
 -- take with another item
-wrong_8 : may_follow shape (take 15 journal) (take 0 0 2 0 2) ≡ false
+wrong_8 : may_follow shape (first_of 15 journal) (take 0 0 2 0 2) ≡ false
 unfolding lists_compute
 wrong_8 = refl
 
 -- the node isn't at rest: it has a none to make
-early_9 : may_follow shape (take 20 journal) (idle 2) ≡ false
+early_9 : may_follow shape (first_of 20 journal) (idle 2) ≡ false
 unfolding lists_compute
 early_9 = refl
 
 -- none with another link edge
-wrong_10 : may_follow shape (take 24 journal) (none 2 1 2 0) ≡ false
+wrong_10 : may_follow shape (first_of 24 journal) (none 2 1 2 0) ≡ false
 unfolding lists_compute
 wrong_10 = refl
 
 -- none with another link from
-wrong_11 : may_follow shape (take 24 journal) (none 1 2 2 0) ≡ false
+wrong_11 : may_follow shape (first_of 24 journal) (none 1 2 2 0) ≡ false
 unfolding lists_compute
 wrong_11 = refl
 
 -- none with another link to
-wrong_12 : may_follow shape (take 24 journal) (none 1 1 3 0) ≡ false
+wrong_12 : may_follow shape (first_of 24 journal) (none 1 1 3 0) ≡ false
 unfolding lists_compute
 wrong_12 = refl
 
 -- none with another link port
-wrong_13 : may_follow shape (take 24 journal) (none 1 1 2 1) ≡ false
+wrong_13 : may_follow shape (first_of 24 journal) (none 1 1 2 1) ≡ false
 unfolding lists_compute
 wrong_13 = refl

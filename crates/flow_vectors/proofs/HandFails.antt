@@ -1,5 +1,5 @@
 -- a hand that nobody takes fails and frees what it held, a kept value too, and the count stays
-use Rattle.std.specs.Prelude.{◌≡◌, ℕ, true, false, Some, None, List, [], ◌∷◌, ◌++◌, take}
+use Rattle.std.specs.Prelude.{◌≡◌, ℕ, true, false, Some, None, List, [], ◌∷◌, ◌++◌, take as first_of}
 use Rattle.std.proofs.Common.{refl}
 use Rattle.flow_item.specs.declared.event.Event.{Event}
 use Rattle.flow_item.specs.Values.{lists_compute}
@@ -9,7 +9,8 @@ use Rattle.flow_shape.specs.declared.Step.TheVariants as T
 use Rattle.flow_shape.specs.declared.Kind.TheVariants as K
 use Rattle.flow_item.specs.Events.{births}
 use Rattle.flow_machine.specs.Machine.{is_run, may_follow, open_after, modes_agree}
-use Rattle.flow_machine.specs.Reservations.{holds_match, limits_kept, passes_limit}
+use Rattle.flow_machine.specs.Reservations.{holds_match}
+use Rattle.flow_machine.specs.Limits.{limits_kept, passes_limit}
 use Rattle.flow_machine.specs.Ledger.{tally_of, kept_of, adds_up}
 use Rattle.flow_machine.specs.Scripts.{scripts_kept}
 use Rattle.flow_machine.specs.Bodies.{bodies_kept}
@@ -99,106 +100,106 @@ unfolding lists_compute
 kept_3 = refl
 
 -- the node isn't at rest: it has a refuse to make
-early_0 : may_follow shape (take 2 journal) (idle 1) ≡ false
+early_0 : may_follow shape (first_of 2 journal) (idle 1) ≡ false
 unfolding lists_compute
 early_0 = refl
 
 -- the node isn't at rest: it has a hold to make
-early_1 : may_follow shape (take 3 journal) (idle 0) ≡ false
+early_1 : may_follow shape (first_of 3 journal) (idle 0) ≡ false
 unfolding lists_compute
 early_1 = refl
 
 -- hold with another link edge
-wrong_2 : may_follow shape (take 4 journal) (hold 1 0 2 0 0 0 0 (int 1)) ≡ false
+wrong_2 : may_follow shape (first_of 4 journal) (hold 1 0 2 0 0 0 0 (int 1)) ≡ false
 unfolding lists_compute
 wrong_2 = refl
 
 -- hold with another link from
-wrong_3 : may_follow shape (take 4 journal) (hold 0 1 2 0 0 0 0 (int 1)) ≡ false
+wrong_3 : may_follow shape (first_of 4 journal) (hold 0 1 2 0 0 0 0 (int 1)) ≡ false
 unfolding lists_compute
 wrong_3 = refl
 
 -- hold with another link to
-wrong_4 : may_follow shape (take 4 journal) (hold 0 0 3 0 0 0 0 (int 1)) ≡ false
+wrong_4 : may_follow shape (first_of 4 journal) (hold 0 0 3 0 0 0 0 (int 1)) ≡ false
 unfolding lists_compute
 wrong_4 = refl
 
 -- hold with another link port
-wrong_5 : may_follow shape (take 4 journal) (hold 0 0 2 1 0 0 0 (int 1)) ≡ false
+wrong_5 : may_follow shape (first_of 4 journal) (hold 0 0 2 1 0 0 0 (int 1)) ≡ false
 unfolding lists_compute
 wrong_5 = refl
 
 -- hold with another item no
-wrong_6 : may_follow shape (take 4 journal) (hold 0 0 2 0 1 0 0 (int 1)) ≡ false
+wrong_6 : may_follow shape (first_of 4 journal) (hold 0 0 2 0 1 0 0 (int 1)) ≡ false
 unfolding lists_compute
 wrong_6 = refl
 
 -- hold with another item tag
-wrong_7 : may_follow shape (take 4 journal) (hold 0 0 2 0 0 0 1 (int 1)) ≡ false
+wrong_7 : may_follow shape (first_of 4 journal) (hold 0 0 2 0 0 0 1 (int 1)) ≡ false
 unfolding lists_compute
 wrong_7 = refl
 
 -- hold with another item val
-wrong_8 : may_follow shape (take 4 journal) (hold 0 0 2 0 0 0 0 (below 76)) ≡ false
+wrong_8 : may_follow shape (first_of 4 journal) (hold 0 0 2 0 0 0 0 (below 76)) ≡ false
 unfolding lists_compute
 wrong_8 = refl
 
 -- hold with another no
-wrong_9 : may_follow shape (take 4 journal) (hold 0 0 2 0 0 1 0 (int 1)) ≡ false
+wrong_9 : may_follow shape (first_of 4 journal) (hold 0 0 2 0 0 1 0 (int 1)) ≡ false
 unfolding lists_compute
 wrong_9 = refl
 
 -- refuse with another link edge
-wrong_10 : may_follow shape (take 6 journal) (refuse 2 1 2 0 0) ≡ false
+wrong_10 : may_follow shape (first_of 6 journal) (refuse 2 1 2 0 0) ≡ false
 unfolding lists_compute
 wrong_10 = refl
 
 -- refuse with another link from
-wrong_11 : may_follow shape (take 6 journal) (refuse 1 2 2 0 0) ≡ false
+wrong_11 : may_follow shape (first_of 6 journal) (refuse 1 2 2 0 0) ≡ false
 unfolding lists_compute
 wrong_11 = refl
 
 -- refuse with another link to
-wrong_12 : may_follow shape (take 6 journal) (refuse 1 1 3 0 0) ≡ false
+wrong_12 : may_follow shape (first_of 6 journal) (refuse 1 1 3 0 0) ≡ false
 unfolding lists_compute
 wrong_12 = refl
 
 -- refuse with another link port
-wrong_13 : may_follow shape (take 6 journal) (refuse 1 1 2 1 0) ≡ false
+wrong_13 : may_follow shape (first_of 6 journal) (refuse 1 1 2 1 0) ≡ false
 unfolding lists_compute
 wrong_13 = refl
 
 -- refuse with another item
-wrong_14 : may_follow shape (take 6 journal) (refuse 1 1 2 0 1) ≡ false
+wrong_14 : may_follow shape (first_of 6 journal) (refuse 1 1 2 0 1) ≡ false
 unfolding lists_compute
 wrong_14 = refl
 
 -- the node isn't at rest: it has a free to make
-early_15 : may_follow shape (take 10 journal) (idle 2) ≡ false
+early_15 : may_follow shape (first_of 10 journal) (idle 2) ≡ false
 unfolding lists_compute
 early_15 = refl
 
 -- free with another link edge
-wrong_16 : may_follow shape (take 10 journal) (free 1 0 2 0 0) ≡ false
+wrong_16 : may_follow shape (first_of 10 journal) (free 1 0 2 0 0) ≡ false
 unfolding lists_compute
 wrong_16 = refl
 
 -- free with another link from
-wrong_17 : may_follow shape (take 10 journal) (free 0 1 2 0 0) ≡ false
+wrong_17 : may_follow shape (first_of 10 journal) (free 0 1 2 0 0) ≡ false
 unfolding lists_compute
 wrong_17 = refl
 
 -- free with another link to
-wrong_18 : may_follow shape (take 10 journal) (free 0 0 3 0 0) ≡ false
+wrong_18 : may_follow shape (first_of 10 journal) (free 0 0 3 0 0) ≡ false
 unfolding lists_compute
 wrong_18 = refl
 
 -- free with another link port
-wrong_19 : may_follow shape (take 10 journal) (free 0 0 2 1 0) ≡ false
+wrong_19 : may_follow shape (first_of 10 journal) (free 0 0 2 1 0) ≡ false
 unfolding lists_compute
 wrong_19 = refl
 
 -- free with another item
-wrong_20 : may_follow shape (take 10 journal) (free 0 0 2 0 1) ≡ false
+wrong_20 : may_follow shape (first_of 10 journal) (free 0 0 2 0 1) ≡ false
 unfolding lists_compute
 wrong_20 = refl

@@ -1,5 +1,5 @@
 -- a key join takes the least tag that is at each port; a tuple that doesn't fit becomes the empty list
-use Rattle.std.specs.Prelude.{◌≡◌, ℕ, true, false, Some, None, List, [], ◌∷◌, ◌++◌, take}
+use Rattle.std.specs.Prelude.{◌≡◌, ℕ, true, false, Some, None, List, [], ◌∷◌, ◌++◌, take as first_of}
 use Rattle.std.proofs.Common.{refl}
 use Rattle.flow_item.specs.declared.event.Event.{Event}
 use Rattle.flow_item.specs.Values.{lists_compute}
@@ -9,7 +9,8 @@ use Rattle.flow_shape.specs.declared.Step.TheVariants as T
 use Rattle.flow_shape.specs.declared.Kind.TheVariants as K
 use Rattle.flow_item.specs.Events.{births}
 use Rattle.flow_machine.specs.Machine.{is_run, may_follow, open_after, modes_agree}
-use Rattle.flow_machine.specs.Reservations.{holds_match, limits_kept, passes_limit}
+use Rattle.flow_machine.specs.Reservations.{holds_match}
+use Rattle.flow_machine.specs.Limits.{limits_kept, passes_limit}
 use Rattle.flow_machine.specs.Ledger.{tally_of, kept_of, adds_up}
 use Rattle.flow_machine.specs.Scripts.{scripts_kept}
 use Rattle.flow_machine.specs.Bodies.{bodies_kept}
@@ -91,31 +92,31 @@ unfolding lists_compute
 kept_2 = refl
 
 -- the node isn't at rest: it has a form to make
-early_0 : may_follow shape (take 5 journal) (idle 0) ≡ false
+early_0 : may_follow shape (first_of 5 journal) (idle 0) ≡ false
 unfolding lists_compute
 early_0 = refl
 
 -- form with another no
-wrong_1 : may_follow shape (take 7 journal) (form 0 6 (id 0 1 ∷ id 0 2 ∷ [])) ≡ false
+wrong_1 : may_follow shape (first_of 7 journal) (form 0 6 (id 0 1 ∷ id 0 2 ∷ [])) ≡ false
 unfolding lists_compute
 wrong_1 = refl
 
 -- form with another parts
-wrong_2 : may_follow shape (take 7 journal) (form 0 5 (id 0 2 ∷ id 0 3 ∷ [])) ≡ false
+wrong_2 : may_follow shape (first_of 7 journal) (form 0 5 (id 0 2 ∷ id 0 3 ∷ [])) ≡ false
 unfolding lists_compute
 wrong_2 = refl
 
 -- the node isn't at rest: it has a shut to make
-early_3 : may_follow shape (take 9 journal) (idle 0) ≡ false
+early_3 : may_follow shape (first_of 9 journal) (idle 0) ≡ false
 unfolding lists_compute
 early_3 = refl
 
 -- shut with another item
-wrong_4 : may_follow shape (take 9 journal) (shut 0 6 ended_out) ≡ false
+wrong_4 : may_follow shape (first_of 9 journal) (shut 0 6 ended_out) ≡ false
 unfolding lists_compute
 wrong_4 = refl
 
 -- shut with another ended
-wrong_5 : may_follow shape (take 9 journal) (shut 0 5 ended_lost) ≡ false
+wrong_5 : may_follow shape (first_of 9 journal) (shut 0 5 ended_lost) ≡ false
 unfolding lists_compute
 wrong_5 = refl

@@ -1,5 +1,5 @@
 -- messages go by their ports, and one to a port without an edge is lost; an async node brings its ticket back
-use Rattle.std.specs.Prelude.{◌≡◌, ℕ, true, false, Some, None, List, [], ◌∷◌, ◌++◌, take}
+use Rattle.std.specs.Prelude.{◌≡◌, ℕ, true, false, Some, None, List, [], ◌∷◌, ◌++◌, take as first_of}
 use Rattle.std.proofs.Common.{refl}
 use Rattle.flow_item.specs.declared.event.Event.{Event}
 use Rattle.flow_item.specs.Values.{lists_compute}
@@ -9,7 +9,8 @@ use Rattle.flow_shape.specs.declared.Step.TheVariants as T
 use Rattle.flow_shape.specs.declared.Kind.TheVariants as K
 use Rattle.flow_item.specs.Events.{births}
 use Rattle.flow_machine.specs.Machine.{is_run, may_follow, open_after, modes_agree}
-use Rattle.flow_machine.specs.Reservations.{holds_match, limits_kept, passes_limit}
+use Rattle.flow_machine.specs.Reservations.{holds_match}
+use Rattle.flow_machine.specs.Limits.{limits_kept, passes_limit}
 use Rattle.flow_machine.specs.Ledger.{tally_of, kept_of, adds_up}
 use Rattle.flow_machine.specs.Scripts.{scripts_kept}
 use Rattle.flow_machine.specs.Bodies.{bodies_kept}
@@ -91,11 +92,11 @@ unfolding lists_compute
 kept_2 = refl
 
 -- back with another item
-wrong_0 : may_follow shape (take 17 journal) (back 0 1 1 1 (msg 0 0 (int 4) ∷ [])) ≡ false
+wrong_0 : may_follow shape (first_of 17 journal) (back 0 1 1 1 (msg 0 0 (int 4) ∷ [])) ≡ false
 unfolding lists_compute
 wrong_0 = refl
 
 -- back with another first
-wrong_1 : may_follow shape (take 17 journal) (back 0 1 0 2 (msg 0 0 (int 4) ∷ [])) ≡ false
+wrong_1 : may_follow shape (first_of 17 journal) (back 0 1 0 2 (msg 0 0 (int 4) ∷ [])) ≡ false
 unfolding lists_compute
 wrong_1 = refl

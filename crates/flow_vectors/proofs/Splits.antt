@@ -1,5 +1,5 @@
 -- a list is split over ports, a text and a number go to the first; a broadcast reaches a continue node that needs two
-use Rattle.std.specs.Prelude.{◌≡◌, ℕ, true, false, Some, None, List, [], ◌∷◌, ◌++◌, take}
+use Rattle.std.specs.Prelude.{◌≡◌, ℕ, true, false, Some, None, List, [], ◌∷◌, ◌++◌, take as first_of}
 use Rattle.std.proofs.Common.{refl}
 use Rattle.flow_item.specs.declared.event.Event.{Event}
 use Rattle.flow_item.specs.Values.{lists_compute}
@@ -9,7 +9,8 @@ use Rattle.flow_shape.specs.declared.Step.TheVariants as T
 use Rattle.flow_shape.specs.declared.Kind.TheVariants as K
 use Rattle.flow_item.specs.Events.{births}
 use Rattle.flow_machine.specs.Machine.{is_run, may_follow, open_after, modes_agree}
-use Rattle.flow_machine.specs.Reservations.{holds_match, limits_kept, passes_limit}
+use Rattle.flow_machine.specs.Reservations.{holds_match}
+use Rattle.flow_machine.specs.Limits.{limits_kept, passes_limit}
 use Rattle.flow_machine.specs.Ledger.{tally_of, kept_of, adds_up}
 use Rattle.flow_machine.specs.Scripts.{scripts_kept}
 use Rattle.flow_machine.specs.Bodies.{bodies_kept}
@@ -107,21 +108,21 @@ unfolding lists_compute
 kept_4 = refl
 
 -- the node isn't at rest: it has a split to make
-early_0 : may_follow shape (take 3 journal) (idle 0) ≡ false
+early_0 : may_follow shape (first_of 3 journal) (idle 0) ≡ false
 unfolding lists_compute
 early_0 = refl
 
 -- split with another item
-wrong_1 : may_follow shape (take 4 journal) (split 0 1 3 (msg 0 0 (int 1) ∷ msg 1 0 (text (117 ∷ [])) ∷ msg 2 0 (int 3) ∷ [])) ≡ false
+wrong_1 : may_follow shape (first_of 4 journal) (split 0 1 3 (msg 0 0 (int 1) ∷ msg 1 0 (text (117 ∷ [])) ∷ msg 2 0 (int 3) ∷ [])) ≡ false
 unfolding lists_compute
 wrong_1 = refl
 
 -- split with another first
-wrong_2 : may_follow shape (take 4 journal) (split 0 0 4 (msg 0 0 (int 1) ∷ msg 1 0 (text (117 ∷ [])) ∷ msg 2 0 (int 3) ∷ [])) ≡ false
+wrong_2 : may_follow shape (first_of 4 journal) (split 0 0 4 (msg 0 0 (int 1) ∷ msg 1 0 (text (117 ∷ [])) ∷ msg 2 0 (int 3) ∷ [])) ≡ false
 unfolding lists_compute
 wrong_2 = refl
 
 -- split with another outs
-wrong_3 : may_follow shape (take 4 journal) (split 0 0 3 (msg 0 0 (int 1) ∷ msg 1 0 (text (117 ∷ [])) ∷ [])) ≡ false
+wrong_3 : may_follow shape (first_of 4 journal) (split 0 0 3 (msg 0 0 (int 1) ∷ msg 1 0 (text (117 ∷ [])) ∷ [])) ≡ false
 unfolding lists_compute
 wrong_3 = refl

@@ -1,5 +1,5 @@
 -- a buffer, a write-once node and a sequencer give; a value that is set and a tag that is past are refused to a caller
-use Rattle.std.specs.Prelude.{◌≡◌, ℕ, true, false, Some, None, List, [], ◌∷◌, ◌++◌, take}
+use Rattle.std.specs.Prelude.{◌≡◌, ℕ, true, false, Some, None, List, [], ◌∷◌, ◌++◌, take as first_of}
 use Rattle.std.proofs.Common.{refl}
 use Rattle.flow_item.specs.declared.event.Event.{Event}
 use Rattle.flow_item.specs.Values.{lists_compute}
@@ -9,7 +9,8 @@ use Rattle.flow_shape.specs.declared.Step.TheVariants as T
 use Rattle.flow_shape.specs.declared.Kind.TheVariants as K
 use Rattle.flow_item.specs.Events.{births}
 use Rattle.flow_machine.specs.Machine.{is_run, may_follow, open_after, modes_agree}
-use Rattle.flow_machine.specs.Reservations.{holds_match, limits_kept, passes_limit}
+use Rattle.flow_machine.specs.Reservations.{holds_match}
+use Rattle.flow_machine.specs.Limits.{limits_kept, passes_limit}
 use Rattle.flow_machine.specs.Ledger.{tally_of, kept_of, adds_up}
 use Rattle.flow_machine.specs.Scripts.{scripts_kept}
 use Rattle.flow_machine.specs.Bodies.{bodies_kept}
@@ -99,6 +100,6 @@ unfolding lists_compute
 kept_3 = refl
 
 -- put with another answer cause
-wrong_0 : may_follow shape (take 3 journal) (put 0 1 0 0 0 kept (int 4)) ≡ false
+wrong_0 : may_follow shape (first_of 3 journal) (put 0 1 0 0 0 kept (int 4)) ≡ false
 unfolding lists_compute
 wrong_0 = refl

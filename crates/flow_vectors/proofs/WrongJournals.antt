@@ -8,7 +8,8 @@ use Rattle.flow_shape.specs.declared.Shape.{Shape}
 use Rattle.flow_shape.specs.declared.Step.{Step}
 use Rattle.flow_shape.specs.declared.Step.TheVariants as T
 use Rattle.flow_machine.specs.Machine.{is_legal, modes_agree}
-use Rattle.flow_machine.specs.Reservations.{holds_match, limits_kept, passes_limit}
+use Rattle.flow_machine.specs.Reservations.{holds_match}
+use Rattle.flow_machine.specs.Limits.{limits_kept, passes_limit}
 use Rattle.flow_machine.specs.Ledger.{adds_up}
 use Rattle.flow_machine.specs.Scripts.{scripts_kept}
 use Rattle.flow_machine.specs.Bodies.{bodies_kept}
