@@ -102,7 +102,7 @@ def by_hand(shows, doc_json, workers, lines):
     out += say("opening", "open_after shape journal ≡ %d" % m.open)
     for label, statement in [
             ("agreeing", "modes_agree shape journal ≡ true"), ("matching", "holds_match shape journal ≡ true"),
-            ("adding", "adds_up shape journal ≡ true"), ("limited", "limits_kept shape journal ≡ true"),
+            ("adding", "tallies_add_up shape journal ≡ true"), ("limited", "limits_kept shape journal ≡ true"),
             ("scripted", "scripts_kept shape scripts journal ≡ true"), ("answered", "bodies_kept builtin shape journal ≡ true")]:
         out += say(label, statement)
     return out
@@ -203,7 +203,7 @@ def module(name, shows, doc_json, limits, seen):
         out += say("refused_next", "is_scheduled shape scripts (journal ++ refused ∷ []) ≡ true")
     for label, statement in [
             ("agreeing", "modes_agree shape journal ≡ true"), ("matching", "holds_match shape journal ≡ true"),
-            ("adding", "adds_up shape journal ≡ true"), ("limited", "limits_kept shape journal ≡ true"),
+            ("adding", "tallies_add_up shape journal ≡ true"), ("limited", "limits_kept shape journal ≡ true"),
             ("scripted", "scripts_kept shape scripts journal ≡ true"), ("scheduled", "is_scheduled shape scripts journal ≡ true"),
             ("answered", "bodies_kept builtin shape journal ≡ true")]:
         out += say(label, statement)

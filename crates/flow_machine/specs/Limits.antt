@@ -10,17 +10,17 @@ use Rattle.flow_shape.specs.Kinds.{limit_of}
 use Rattle.flow_machine.specs.State.{Part, body_part, limiter_part}
 use Rattle.flow_machine.specs.Machine.{may_follow, is_of_run, state_of}
 
-abbrev pub within : Option ℕ → ℕ → Bool
-within None n = true
-within (Some limit) n = nat_le n limit
+abbrev pub is_within_limit : Option ℕ → ℕ → Bool
+is_within_limit None n = true
+is_within_limit (Some limit) n = nat_le n limit
 
 abbrev pub threshold_of : Kind → Option ℕ
 threshold_of (K.Limiter threshold by_value) = Some threshold
 threshold_of k = None
 
 abbrev pub keeps_limit : Kind → Part → Bool
-keeps_limit k (body_part w) = within (limit_of k) (length w.ready + length w.running)
-keeps_limit k (limiter_part g) = within (threshold_of k) (g.count + length g.hands)
+keeps_limit k (body_part w) = is_within_limit (limit_of k) (length w.ready + length w.running)
+keeps_limit k (limiter_part g) = is_within_limit (threshold_of k) (g.count + length g.hands)
 keeps_limit k p = true
 
 -- ready and running bodies are at most the limit, count and hands at most the threshold

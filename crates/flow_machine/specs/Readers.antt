@@ -9,24 +9,24 @@ use Rattle.flow_machine.specs.State.{Cast, Part, store_part, keeper_part, body_p
 use Rattle.flow_machine.specs.Offers.{next_tuple}
 use Rattle.flow_machine.specs.Enabled.{is_numbered}
 use Rattle.flow_machine.specs.WishEvents.{id_of, where_some}
-use Rattle.flow_machine.specs.Ledger.{all_of}
+use Rattle.flow_machine.specs.Ledger.{flattened}
 use Rattle.flow_machine.specs.PrintOrder.{items_in_order}
 
 -- the items that a node has beside those of its casts: stored or kept, of its bodies and tickets, at its ports
-abbrev pub items_of : Part → List Item
-items_of (store_part s) = s.items
-items_of (keeper_part v) = option_list v.value
-items_of (body_part w) = w.waiting ++ w.ready ++ w.running ++ w.tickets
-items_of (join_part j) = all_of j.ports
-items_of (split_part p) = p.waiting
-items_of p = []
+abbrev pub own_items : Part → List Item
+own_items (store_part s) = s.items
+own_items (keeper_part v) = option_list v.value
+own_items (body_part w) = w.waiting ++ w.ready ++ w.running ++ w.tickets
+own_items (join_part j) = flattened j.ports
+own_items (split_part p) = p.waiting
+own_items p = []
 
 abbrev pub cast_item : Cast → Item
 cast_item c = c.item
 
 -- all items that a node has, those in its slot or outbox and its hands among them; what a reserving join holds is another node's
 abbrev pub present_items : Part → List Item
-present_items p = items_of p ++ map cast_item (casts_in p)
+present_items p = own_items p ++ map cast_item (casts_in p)
 
 -- the present item or hand of this number
 abbrev pub item_of_number : NodeState → ℕ → Option Item

@@ -11,7 +11,7 @@ use Rattle.flow_item.specs.Events.{births}
 use Rattle.flow_machine.specs.Machine.{is_run, may_follow, open_after, modes_agree}
 use Rattle.flow_machine.specs.Reservations.{holds_match}
 use Rattle.flow_machine.specs.Limits.{limits_kept, passes_limit}
-use Rattle.flow_machine.specs.Ledger.{tally_of, kept_of, adds_up}
+use Rattle.flow_machine.specs.Ledger.{tally_of, kept_of, tallies_add_up}
 use Rattle.flow_machine.specs.Scripts.{scripts_kept}
 use Rattle.flow_machine.specs.Bodies.{bodies_kept}
 use Rattle.flow_machine.specs.Schedule.{is_scheduled}
@@ -47,7 +47,7 @@ matching : holds_match shape journal ≡ true
 unfolding lists_compute
 matching = refl
 
-adding : adds_up shape journal ≡ true
+adding : tallies_add_up shape journal ≡ true
 unfolding lists_compute
 adding = refl
 

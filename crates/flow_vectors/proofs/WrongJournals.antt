@@ -10,7 +10,7 @@ use Rattle.flow_shape.specs.declared.Step.TheVariants as T
 use Rattle.flow_machine.specs.Machine.{is_legal, modes_agree}
 use Rattle.flow_machine.specs.Reservations.{holds_match}
 use Rattle.flow_machine.specs.Limits.{limits_kept, passes_limit}
-use Rattle.flow_machine.specs.Ledger.{adds_up}
+use Rattle.flow_machine.specs.Ledger.{tallies_add_up}
 use Rattle.flow_machine.specs.Scripts.{scripts_kept}
 use Rattle.flow_machine.specs.Bodies.{bodies_kept}
 use Rattle.flow_machine.specs.Schedule.{is_scheduled}
@@ -70,7 +70,7 @@ count_illegal : is_legal body lost_count ≡ false
 unfolding lists_compute
 count_illegal = refl
 
-ledger_off : adds_up body lost_count ≡ false
+ledger_off : tallies_add_up body lost_count ≡ false
 unfolding lists_compute
 ledger_off = refl
 
