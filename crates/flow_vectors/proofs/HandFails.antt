@@ -1,5 +1,5 @@
 -- a hand that nobody takes fails and frees what it held, a kept value too, and the count stays
-use Rattle.std.specs.Prelude.{◌≡◌, ℕ, true, false, Some, None, List, [], ◌∷◌, ◌++◌, take as first_of}
+use Rattle.std.specs.Prelude.{◌≡◌, true, false, None, List, [], ◌∷◌, take as first_of}
 use Rattle.std.proofs.Common.{refl}
 use Rattle.flow_item.specs.declared.event.Event.{Event}
 use Rattle.flow_item.specs.Values.{lists_compute}
@@ -10,13 +10,13 @@ use Rattle.flow_shape.specs.declared.Kind.TheVariants as K
 use Rattle.flow_item.specs.Events.{births}
 use Rattle.flow_machine.specs.Machine.{is_run, may_follow, open_after, modes_agree}
 use Rattle.flow_machine.specs.Reservations.{holds_match}
-use Rattle.flow_machine.specs.Limits.{limits_kept, passes_limit}
+use Rattle.flow_machine.specs.Limits.{limits_kept}
 use Rattle.flow_machine.specs.Ledger.{tally_of, kept_of, tallies_add_up}
 use Rattle.flow_machine.specs.Scripts.{scripts_kept}
 use Rattle.flow_machine.specs.Bodies.{bodies_kept}
 use Rattle.flow_machine.specs.Schedule.{is_scheduled}
 use Rattle.flow_vectors.specs.Builtin.{builtin}
-use Rattle.flow_vectors.specs.Lines.{int, below, text, values, kept, eaten, lost, over, ended_out, ended_lost, ended_won, ended_failed, id, link, msg, edge, put, put_busy, put_full, put_set, put_duplicate, act, leave, cancel, give, refuse, none, hold, take, free, start, end, back, form, split, shut, idle}
+use Rattle.flow_vectors.specs.Lines.{int, below, kept, ended_failed, edge, put, leave, refuse, hold, free, shut, idle}
 
 abbrev shape : Shape
 shape = record { nodes = ((K.Queue None) ∷ (K.Overwrite) ∷ (K.Limiter 1 false) ∷ (K.WriteOnce) ∷ []); edges = (edge 0 0 2 0 ∷ edge 1 0 2 0 ∷ edge 2 0 3 0 ∷ []) }

@@ -1,5 +1,5 @@
 -- messages go by their ports, and one to a port without an edge is lost; an async node brings its ticket back
-use Rattle.std.specs.Prelude.{◌≡◌, ℕ, true, false, Some, None, List, [], ◌∷◌, ◌++◌, take as first_of}
+use Rattle.std.specs.Prelude.{◌≡◌, true, false, None, List, [], ◌∷◌, take as first_of}
 use Rattle.std.proofs.Common.{refl}
 use Rattle.flow_item.specs.declared.event.Event.{Event}
 use Rattle.flow_item.specs.Values.{lists_compute}
@@ -10,13 +10,13 @@ use Rattle.flow_shape.specs.declared.Kind.TheVariants as K
 use Rattle.flow_item.specs.Events.{births}
 use Rattle.flow_machine.specs.Machine.{is_run, may_follow, open_after, modes_agree}
 use Rattle.flow_machine.specs.Reservations.{holds_match}
-use Rattle.flow_machine.specs.Limits.{limits_kept, passes_limit}
+use Rattle.flow_machine.specs.Limits.{limits_kept}
 use Rattle.flow_machine.specs.Ledger.{tally_of, kept_of, tallies_add_up}
 use Rattle.flow_machine.specs.Scripts.{scripts_kept}
 use Rattle.flow_machine.specs.Bodies.{bodies_kept}
 use Rattle.flow_machine.specs.Schedule.{is_scheduled}
 use Rattle.flow_vectors.specs.Builtin.{builtin}
-use Rattle.flow_vectors.specs.Lines.{int, below, text, values, kept, eaten, lost, over, ended_out, ended_lost, ended_won, ended_failed, id, link, msg, edge, put, put_busy, put_full, put_set, put_duplicate, act, leave, cancel, give, refuse, none, hold, take, free, start, end, back, form, split, shut, idle}
+use Rattle.flow_vectors.specs.Lines.{int, text, kept, ended_out, ended_lost, msg, edge, put, leave, give, start, end, back, shut, idle}
 
 abbrev shape : Shape
 shape = record { nodes = ((K.Multi false None 7 (int 0) 2) ∷ (K.Async false None (int 0)) ∷ (K.Queue None) ∷ []); edges = (edge 0 0 1 0 ∷ edge 1 0 2 0 ∷ []) }

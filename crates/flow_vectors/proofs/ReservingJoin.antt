@@ -1,5 +1,5 @@
 -- a reserving join holds, gives up and frees, and then takes with a kept value
-use Rattle.std.specs.Prelude.{◌≡◌, ℕ, true, false, Some, None, List, [], ◌∷◌, ◌++◌, take as first_of}
+use Rattle.std.specs.Prelude.{◌≡◌, true, None, List, [], ◌∷◌}
 use Rattle.std.proofs.Common.{refl}
 use Rattle.flow_item.specs.declared.event.Event.{Event}
 use Rattle.flow_item.specs.Values.{lists_compute}
@@ -8,15 +8,15 @@ use Rattle.flow_shape.specs.declared.Step.{Step}
 use Rattle.flow_shape.specs.declared.Step.TheVariants as T
 use Rattle.flow_shape.specs.declared.Kind.TheVariants as K
 use Rattle.flow_item.specs.Events.{births}
-use Rattle.flow_machine.specs.Machine.{is_run, may_follow, open_after, modes_agree}
+use Rattle.flow_machine.specs.Machine.{is_run, open_after, modes_agree}
 use Rattle.flow_machine.specs.Reservations.{holds_match}
-use Rattle.flow_machine.specs.Limits.{limits_kept, passes_limit}
+use Rattle.flow_machine.specs.Limits.{limits_kept}
 use Rattle.flow_machine.specs.Ledger.{tally_of, kept_of, tallies_add_up}
 use Rattle.flow_machine.specs.Scripts.{scripts_kept}
 use Rattle.flow_machine.specs.Bodies.{bodies_kept}
 use Rattle.flow_machine.specs.Schedule.{is_scheduled}
 use Rattle.flow_vectors.specs.Builtin.{builtin}
-use Rattle.flow_vectors.specs.Lines.{int, below, text, values, kept, eaten, lost, over, ended_out, ended_lost, ended_won, ended_failed, id, link, msg, edge, put, put_busy, put_full, put_set, put_duplicate, act, leave, cancel, give, refuse, none, hold, take, free, start, end, back, form, split, shut, idle}
+use Rattle.flow_vectors.specs.Lines.{int, values, kept, ended_won, id, edge, put, leave, give, refuse, none, hold, take, form, shut, idle}
 
 abbrev shape : Shape
 shape = record { nodes = ((K.Queue None) ∷ (K.Overwrite) ∷ (K.HoldJoin 2) ∷ (K.Queue None) ∷ []); edges = (edge 0 0 2 0 ∷ edge 1 0 2 1 ∷ edge 2 0 3 0 ∷ []) }

@@ -1,8 +1,7 @@
 -- each rule of a shape, at the least place where it fails, and a shape that keeps all; the counts of nodes and edges are too wide to be worked here
-use Rattle.std.specs.Prelude.{◌≡◌, false, None, Some, List, [], ◌∷◌}
+use Rattle.std.specs.Prelude.{◌≡◌, false, None, Some, [], ◌∷◌}
 use Rattle.std.proofs.Common.{refl}
 use Rattle.flow_shape.specs.declared.Kind.TheVariants as K
-use Rattle.flow_shape.specs.declared.Edge.{Edge}
 use Rattle.flow_shape.specs.declared.Rule.TheVariants.{G3, G4, G5, G6, G7, G8, G9, G10, G11, G12, G13}
 use Rattle.flow_shape.specs.Rules.{first_fault}
 use Rattle.flow_vectors.specs.Lines.{int, edge}
