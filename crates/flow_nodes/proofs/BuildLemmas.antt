@@ -12,9 +12,7 @@ use Rattle.flow_machine.specs.Wishes.{is_ready}
 use Rattle.std.specs.List.{list_all}
 use Rattle.std.proofs.lemmas.Option.{same_Some}
 use Rattle.flow_shape.specs.Wiring.{at_node, passes}
-use Rattle.flow_node.specs.Built.{is_built}
 use Rattle.flow_node.specs.Readied.{is_waiting, start_of}
-use Rattle.flow_node.proofs.HoldLemmas.{all_at}
 use Rattle.flow_nodes.specs.Rows.{node_at, nodes_of}
 use Rattle.flow_node.proofs.WireLemmas.{drop-at}
 
@@ -55,9 +53,3 @@ start-more shape n v old all is before = by_kind (slice_get shape.nodes n) refl
     by_kind : (o : Option Kind) → slice_get shape.nodes n ≡ o → (old ++ v ∷ []) ++ map_places (node_at shape []) (n + 1) (drop (n + 1) shape.nodes) ≡ all
     by_kind None at = let never : ◌≡◌ {A = Option PlacedNode} None (Some v) = rw at at is in cc
     by_kind (Some k) at = let same : ◌≡◌ {A = Option PlacedNode} (Some (node_at shape [] n k)) (Some v) = rw at at is in nodes-more shape n k v old all at (sym (same_Some _ _ same)) before
-
--- each node of such a graph is of a kind that there is code for
-pub built-at : (shape : Shape) (n : ℕ) → list_all is_built shape.nodes ≡ true → n < length shape.nodes → at_node shape n is_built ≡ true
-built-at shape n built short =
-    let found = slice_get-below shape.nodes n short in
-    ap (passes is_built) found.1 ∙ all_at is_built shape.nodes n found.0 built found.1
