@@ -1,17 +1,14 @@
 -- The nodes of a run at its start.
-use Rattle.std.proofs.Common.{◌≡◌, ℕ, suc, ◌+◌, ◌<◌, true, false, Option, Some, None, List, [], ◌∷◌, ◌++◌, length, drop, map, replicate, refl, sym, ap, ◌∙◌, arith, append_assoc}
+use Rattle.std.proofs.Common.{◌≡◌, ℕ, suc, ◌+◌, false, Option, Some, None, List, [], ◌∷◌, ◌++◌, length, drop, map, replicate, refl, sym, ap, ◌∙◌, arith, append_assoc}
 use Rattle.std.specs.Prelude.{slice_get}
 use Rattle.flow_item.specs.Lists.{map_places}
-use Rattle.flow_item.proofs.Places.{slice_get-below}
 use Rattle.flow_shape.specs.declared.Kind.{Kind}
 use Rattle.flow_shape.specs.declared.Kind.TheVariants as K
 use Rattle.flow_shape.specs.declared.Shape.{Shape}
 use Rattle.flow_machine.specs.State.{PlacedNode}
 use Rattle.flow_machine.specs.State.{start_part}
 use Rattle.flow_machine.specs.Wishes.{is_ready}
-use Rattle.std.specs.List.{list_all}
 use Rattle.std.proofs.lemmas.Option.{same_Some}
-use Rattle.flow_shape.specs.Wiring.{at_node, passes}
 use Rattle.flow_node.specs.Readied.{is_waiting, start_of}
 use Rattle.flow_nodes.specs.Rows.{node_at, nodes_of}
 use Rattle.flow_node.proofs.WireLemmas.{drop-at}
