@@ -14,6 +14,7 @@ use Rattle.std.proofs.lemmas.Bool.{ltb-true}
 use Rattle.flow_shape.specs.declared.Step.{Step}
 use Rattle.flow_nodes.specs.Stepping.{node_of}
 use Rattle.flow_nodes.specs.Rows.{node_at, nodes_of}
+use Rattle.flow_work.proofs.LimitLemmas.{within-at-start}
 use Rattle.flow_work.specs.Runs.{is_behind, IsRunnable, IsKept}
 use Rattle.flow_node.proofs.WireLemmas.{drop-at}
 
@@ -29,7 +30,7 @@ nothing-behind c k h = by_first (ltb c 0) refl (eqb c 0) h
 pub kept-at-start : (shape : Shape) (callers : List (List Step)) (items events : ℕ) (nodes : List Readied) → IsRunnable shape callers → map node_of nodes ≡ nodes_of shape [] → IsKept (record { shape = shape; callers = callers; items = items; events = events; journal = [] }) nodes 0 0 0
 kept-at-start shape callers items events nodes can seen = record {
   runnable = can;
-  journal = record { run = refl; scheduled = refl; within = omega arith };
+  journal = record { run = refl; scheduled = refl; within = within-at-start items events };
   nodes_are = seen;
   births_are = refl;
   cursor = record {

@@ -1,0 +1,98 @@
+-- What a run promises of what it leaves, on one thread or on several. Each is a fact of a journal alone.
+use Rattle.std.specs.Prelude.{◌≡◌, ℕ, ◌+◌, ◌<◌, ◌≤◌, Bool, true, false, Option, Some, None, Result, Err, ⊤, List, [], ◌∷◌, ◌++◌, length, drop, slice_get}
+use Rattle.flow_item.specs.declared.event.Event.{Event}
+use Rattle.flow_item.specs.declared.event.Stop.{Stop}
+use Rattle.flow_item.specs.declared.event.Stop.TheVariants.{Limit}
+use Rattle.flow_item.specs.Lists.{map_places}
+use Rattle.flow_item.specs.Events.{births_of, births}
+use Rattle.flow_shape.specs.declared.Kind.{Kind}
+use Rattle.flow_shape.specs.declared.Shape.{Shape}
+use Rattle.flow_shape.specs.declared.Step.{Step}
+use Rattle.flow_shape.specs.declared.Step.TheVariants as T
+use Rattle.flow_machine.specs.Machine.{is_run, open_after, state_of, sum_of, modes_agree}
+use Rattle.flow_machine.specs.Scripts.{Sent, sent_of, script}
+use Rattle.flow_machine.specs.Schedule.{is_scheduled}
+use Rattle.flow_machine.specs.Ledger.{tally_of, gone_of, kept_items}
+use Rattle.flow_machine.specs.Reservations.{holds_match, limits_kept, passes_limit}
+use Rattle.flow_doc.specs.declared.Kept.{Kept}
+
+-- ---- scripts
+
+-- what each caller did is the first of its script
+abbrev pub FollowsScripts : Shape → List (List Step) → List Event → Type 0
+FollowsScripts shape scripts es = (c : ℕ) (steps : List Step) → slice_get scripts c ≡ Some steps → (left : List Sent) × (sent_of es c ++ left ≡ script shape steps)
+
+-- what each caller did is its whole script
+abbrev pub CompletesScripts : Shape → List (List Step) → List Event → Type 0
+CompletesScripts shape scripts es = (c : ℕ) (steps : List Step) → slice_get scripts c ≡ Some steps → sent_of es c ≡ script shape steps
+
+-- the caller did exactly the steps before its wait at step k, and then nothing was open
+pub record WaitedAt (shape : Shape) (steps : List Step) (es : List Event) (c k : ℕ) : Type 0 where
+  pub before : List Event
+  pub later : List Event
+  pub is : es ≡ before ++ later
+  pub done : sent_of before c ++ script shape (drop k steps) ≡ script shape steps
+  pub closed : open_after shape before ≡ 0
+
+-- where a caller's next event after a wait stands in the journal, the caller waited
+abbrev pub HeedsWaits : Shape → List (List Step) → List Event → Type 0
+HeedsWaits shape scripts es =
+    (c : ℕ) (steps : List Step) (k : ℕ) → slice_get scripts c ≡ Some steps → slice_get steps k ≡ Some T.Wait →
+    length (script shape steps) < length (sent_of es c) + length (script shape (drop k steps)) → WaitedAt shape steps es c k
+
+-- ---- limits
+
+-- there are at most `events` events, and before each event that bears items fewer than `items` were born
+pub record IsWithinLimits (items events : ℕ) (es : List Event) : Type 0 where
+  pub few : length es ≤ events
+  pub room : (before : List Event) (e : Event) (later : List Event) → es ≡ before ++ e ∷ later → 0 < births_of e → births before < items
+
+-- after these events the event may come next, passes a limit, and keeps the scripts
+pub record IsRefusedAfter (shape : Shape) (scripts : List (List Step)) (workers items events : ℕ) (es : List Event) (e : Event) : Type 0 where
+  pub passes : passes_limit shape (length scripts) workers items events es e ≡ true
+  pub follows : FollowsScripts shape scripts (es ++ e ∷ [])
+
+-- and it is the next one of the one thread
+pub record IsRefusedNext (shape : Shape) (scripts : List (List Step)) (items events : ℕ) (es : List Event) (e : Event) : Type 0 where
+  pub refused : IsRefusedAfter shape scripts 1 items events es e
+  pub scheduled : is_scheduled shape scripts (es ++ e ∷ []) ≡ true
+
+abbrev pub is_limit : Result ⊤ Stop → Bool
+is_limit (Err Limit) = true
+is_limit answer = false
+
+-- ---- at each moment of the run
+
+-- it holds at each start of the journal
+abbrev pub AtEachStart : (List Event → Type 0) → List Event → Type 0
+AtEachStart Holds es = (before later : List Event) → es ≡ before ++ later → Holds before
+
+-- both ends of each edge agree whether it is in push or in pull
+abbrev pub EdgesAgree : Shape → List Event → Type 0
+EdgesAgree shape es = modes_agree shape es ≡ true
+
+-- both ends of each edge hold the same items, each once
+abbrev pub HoldsAgree : Shape → List Event → Type 0
+HoldsAgree shape es = holds_match shape es ≡ true
+
+-- ready and running bodies are within each node's limit, counts and hands within each threshold
+abbrev pub NodesWithinLimits : Shape → List Event → Type 0
+NodesWithinLimits shape es = limits_kept shape es ≡ true
+
+-- what came to each node went out, was eaten, lost or written over, or is kept there, and what came to all nodes was born
+pub record LedgerAddsUp (shape : Shape) (es : List Event) : Type 0 where
+  pub each : (n : ℕ) (k : Kind) → slice_get shape.nodes n ≡ Some k → (tally_of n k es).came ≡ gone_of (tally_of n k es) + length (kept_items (state_of shape n k es).part)
+  pub all : sum_of (map_places (λ n k. (tally_of n k es).came) 0 shape.nodes) ≡ births es
+
+-- ---- what a run is given and leaves
+
+-- nothing is kept of a run yet
+pub record IsFresh (kept : Kept) : Type 0 where
+  pub journal : kept.journal ≡ []
+  pub refused : kept.refused ≡ None
+  pub live : kept.live ≡ []
+
+-- the document and the watcher's pairs are as they were
+pub record SameDocument (old new : Kept) : Type 0 where
+  pub document : new.doc ≡ old.doc
+  pub live : new.live ≡ old.live
