@@ -1,14 +1,14 @@
 -- What a run promises, from what its journal is.
-use Rattle.std.proofs.Common.{◌≡◌, ℕ, ◌+◌, ◌<◌, ◌≤◌, Bool, true, false, ◌&&◌, nat_le, nat_eq, is_none, Option, Some, None, List, [], ◌∷◌, ◌++◌, length, refl, sym, subst, arith}
+use Rattle.std.proofs.Common.{◌≡◌, ℕ, ◌<◌, Bool, true, ◌&&◌, nat_le, nat_eq, is_none, OnOk, Result, Ok, Err, Option, Some, None, List, [], ◌∷◌, ◌++◌, length, refl, sym, subst, arith}
 use Rattle.std.proofs.lemmas.Bool.Decides.{nat_tests}
+use Rattle.std.specs.Prelude.{⊤}
 use Rattle.std.specs.List.{list_all}
 use Rattle.flow_item.specs.declared.event.Event.{Event}
+use Rattle.flow_item.specs.declared.event.Stop.{Stop}
 use Rattle.flow_item.proofs.Tests.{and_left, and_right, both_true}
 use Rattle.flow_shape.specs.declared.Shape.{Shape}
 use Rattle.flow_shape.specs.declared.Step.{Step}
 use Rattle.flow_shape.specs.declared.Step.TheVariants as T
-use Rattle.flow_shape.specs.Kinds.{is_for_callers}
-use Rattle.flow_shape.specs.Wiring.{at_node}
 use Rattle.flow_shape.specs.Rules.{IsValid, first_fault}
 use Rattle.flow_machine.specs.Machine.{is_legal}
 use Rattle.flow_machine.specs.Scripts.{script}
@@ -19,16 +19,24 @@ use Rattle.flow_laws.proofs.Limits.{limits-kept}
 use Rattle.flow_laws.proofs.LedgerLaw.{adds-up}
 use Rattle.flow_laws.proofs.Births.{births-come}
 use Rattle.flow_doc.specs.declared.Doc.{Doc}
-use Rattle.flow_doc.specs.Fits.{doc_fits, kind_fits, step_fits, sink_fits}
+use Rattle.flow_doc.specs.Fits.{doc_fits, kind_fits, step_fits}
 use Rattle.flow_node.specs.Built.{is_built}
 use Rattle.flow_work.specs.declared.plain.Ending.TheVariants as N
 use Rattle.flow_work.specs.declared.run.Refusal.TheVariants as R
-use Rattle.flow_work.specs.Promises.{AtEachStart, EdgesAgree, HoldsAgree, NodesWithinLimits, LedgerAddsUp, IsRefusedNext}
+use Rattle.flow_machine.specs.Bodies.{Meanings, kept_from, bodies_kept}
+use Rattle.flow_machine.specs.Reservations.{IsSettled}
+use Rattle.flow_fates.proofs.OneFateLaw.{one-fate}
+use Rattle.flow_fates.proofs.LineageLaw.{lineages-end}
+use Rattle.flow_fates.proofs.ReservationLaw.{one-reservation}
+use Rattle.flow_fates.proofs.NothingLeft.{nothing-held}
+use Rattle.flow_fates.proofs.BornParents.{parents-are-born}
+use Rattle.flow_work.specs.Promises.{AtEachStart, EdgesAgree, HoldsAgree, NodesWithinLimits, LedgerAddsUp, ItemsHaveOneFate, ItemsHaveLineages, HoldsReserve, NothingIsHeld, ParentsWereBorn, IsRefusedNext}
 use Rattle.flow_node.specs.Readied.{Readied}
 use Rattle.flow_work.specs.Plain.{run_of, AreNodesAfter, Leaves}
 use Rattle.flow_work.specs.Tasks.{KeepsScripts, KeepsWaits}
 use Rattle.flow_work.specs.Refusals.{IsRefused}
 use Rattle.flow_work.specs.Runs.{Run, is_good_step, IsRunnable, IsJournal}
+use Rattle.flow_work.proofs.BuiltLemmas.{no-body}
 use Rattle.flow_work.proofs.EndLemmas.{none-behind}
 use Rattle.flow_work.proofs.LimitLemmas.{within-at-start}
 use Rattle.flow_work.proofs.RunLemmas.{scheduled-snoc}
@@ -53,6 +61,31 @@ module _ (shape : Shape) (es : List Event) (valid : IsValid shape) (legal : is_l
     each = adds-up shape before later valid (start-legal before later is);
     all = births-come shape before later valid (start-legal before later is);
   }
+
+  pub one-fate-each : AtEachStart (ItemsHaveOneFate shape) es
+  one-fate-each before later is n k at i = one-fate shape before later valid (start-legal before later is) n k at i
+
+  pub lineages-each : AtEachStart (ItemsHaveLineages shape) es
+  lineages-each before later is i = lineages-end shape before later valid (start-legal before later is) i
+
+  pub holds-reserve : HoldsReserve shape es
+  holds-reserve before between later l item hand e is = one-reservation shape before between later l item hand e (subst (λ es. is_legal shape es ≡ true) is legal)
+
+  pub nothing-is-held : IsSettled shape es → NothingIsHeld shape es
+  nothing-is-held settled n k at = nothing-held shape es valid legal settled.closed n k at
+
+  pub parents-were-born : IsSettled shape es → ParentsWereBorn shape es
+  parents-were-born settled = parents-are-born shape es valid legal settled
+
+-- ---- bodies
+
+-- where no kind has a body, none answers
+bodies-kept-from : (m : Meanings) (shape : Shape) (before es : List Event) → list_all is_built shape.nodes ≡ true → kept_from m shape before es ≡ true
+bodies-kept-from m shape before [] built = refl
+bodies-kept-from m shape before (e ∷ es) built = both_true (no-body m shape before e built) (bodies-kept-from m shape (before ++ e ∷ []) es built)
+
+pub bodies-are-kept : (shape : Shape) (es : List Event) → list_all is_built shape.nodes ≡ true → (m : Meanings) → bodies_kept m shape es ≡ true
+bodies-are-kept shape es built m = bodies-kept-from m shape [] es built
 
 -- ---- documents that can be run
 
@@ -125,3 +158,8 @@ leaves-limit r s e nodes same can j scripts waits refused after = subst (λ r. L
   limit = refl;
   nodes = after;
 }
+
+-- what holds where a run ended well
+pub on_ok : {X Y : Type 0} (r : Result ⊤ Stop) → (X → Y) → OnOk r X → OnOk r Y
+on_ok (Ok x) f h = f h
+on_ok (Err stop) f h = _

@@ -1,22 +1,13 @@
 -- A run at its start.
-use Rattle.std.proofs.Common.{◌≡◌, ℕ, suc, ◌+◌, ◌<◌, ltb, eqb, Bool, true, false, ◌||◌, ◌&&◌, Option, Some, None, List, [], ◌∷◌, ◌++◌, length, drop, map, replicate, refl, sym, ap, ◌∙◌, arith, append_assoc}
-use Rattle.std.specs.Prelude.{slice_get}
-use Rattle.flow_item.specs.Lists.{map_places}
-use Rattle.flow_item.proofs.Places.{slice_get-below}
-use Rattle.flow_shape.specs.declared.Kind.{Kind}
-use Rattle.flow_shape.specs.declared.Kind.TheVariants as K
+use Rattle.std.proofs.Common.{◌≡◌, ℕ, ◌<◌, ltb, eqb, Bool, true, false, ◌||◌, ◌&&◌, List, [], map, refl, arith}
 use Rattle.flow_shape.specs.declared.Shape.{Shape}
-use Rattle.flow_machine.specs.State.{PlacedNode}
-use Rattle.flow_machine.specs.State.{start_part}
-use Rattle.flow_machine.specs.Wishes.{is_ready}
-use Rattle.flow_node.specs.Readied.{Readied, is_waiting}
+use Rattle.flow_node.specs.Readied.{Readied}
 use Rattle.std.proofs.lemmas.Bool.{ltb-true}
 use Rattle.flow_shape.specs.declared.Step.{Step}
 use Rattle.flow_nodes.specs.Stepping.{node_of}
-use Rattle.flow_nodes.specs.Rows.{node_at, nodes_of}
+use Rattle.flow_nodes.specs.Rows.{nodes_of}
 use Rattle.flow_work.proofs.LimitLemmas.{within-at-start}
 use Rattle.flow_work.specs.Runs.{is_behind, IsRunnable, IsKept}
-use Rattle.flow_node.proofs.WireLemmas.{drop-at}
 
 nothing-behind : (c k : ℕ) → is_behind 0 0 c k ≡ true → ⊥
 nothing-behind c k h = by_first (ltb c 0) refl (eqb c 0) h
