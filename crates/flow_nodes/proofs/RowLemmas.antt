@@ -1,28 +1,25 @@
 -- The nodes after one more event.
-use Rattle.std.proofs.Common.{◌≡◌, ℕ, suc, ◌+◌, ◌<◌, min, Bool, true, false, cond, ◌&&◌, eqb, Option, Some, None, List, [], ◌∷◌, ◌++◌, length, map, refl, sym, ap, ◌∙◌, arith, append_assoc}
+use Rattle.std.proofs.Common.{◌≡◌, ℕ, suc, ◌<◌, Bool, true, false, cond, eqb, Option, Some, None, List, [], ◌∷◌, ◌++◌, length, map, refl, sym, ap, ◌∙◌, arith}
 use Rattle.std.specs.Prelude.{slice_get}
 use Rattle.std.specs.List.{list_all}
 use Rattle.std.specs.Option.{option_map}
-use Rattle.std.proofs.lemmas.List.{length-map, append-nil, length-append}
+use Rattle.std.proofs.lemmas.List.{length-map}
 use Rattle.std.proofs.lemmas.Option.{same_Some, slice_get-map, slice_get_within}
 use Rattle.flow_item.specs.declared.event.Event.{Event}
 use Rattle.flow_item.specs.declared.event.Party.TheVariants.{Node}
 use Rattle.flow_item.specs.declared.event.Link.{Link}
 use Rattle.flow_item.specs.Lists.{map_places}
-use Rattle.flow_item.specs.Events.{parties_of, births_of, births}
+use Rattle.flow_item.specs.Events.{parties_of}
 use Rattle.flow_item.specs.Legal.{takes_part, projection}
-use Rattle.flow_item.proofs.Tests.{and_left, and_right, both_true, and_assoc}
-use Rattle.flow_item.proofs.Journals.{may_follow-allows, is_legal-snoc}
+use Rattle.flow_item.proofs.Journals.{may_follow-allows}
 use Rattle.flow_shape.specs.declared.Kind.{Kind}
 use Rattle.flow_shape.specs.declared.Shape.{Shape}
-use Rattle.flow_shape.specs.declared.Step.{Step}
 use Rattle.flow_shape.specs.Places.{place_at}
 use Rattle.flow_shape.specs.Rules.{IsValid}
 use Rattle.flow_shape.proofs.Valid.{link-edge, valid-joins_two}
 use Rattle.flow_machine.specs.State.{PlacedNode, NodeState}
 use Rattle.flow_machine.specs.After.{after, link_of}
-use Rattle.flow_machine.specs.Machine.{allows, node_allows, is_legal, may_follow, is_of_run, state_of}
-use Rattle.flow_machine.specs.Schedule.{is_next, goes_on, is_scheduled}
+use Rattle.flow_machine.specs.Machine.{allows, node_allows, is_legal, may_follow, state_of}
 use Rattle.flow_machine.proofs.Steps.{HasLink, state_of-snoc, may_follow-linked}
 use Rattle.flow_machine.proofs.Local.{may_follow-allows_at}
 use Rattle.flow_node.specs.Built.{is_built}

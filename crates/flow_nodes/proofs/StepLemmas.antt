@@ -1,6 +1,6 @@
 -- An event applied at both of its ends, and every other node as it was.
 use Rattle.std.proofs.Common.{◌≡◌, ℕ, zero, suc, ◌<◌, Bool, true, false, cond, ◌||◌, eqb, Option, Some, None, List, [], ◌∷◌, length, set, map, refl, sym, ap, ◌∙◌, arith, eq-eqb}
-use Rattle.std.specs.Prelude.{slice_get}
+use Rattle.std.specs.Prelude.{slice_get, IsSome}
 use Rattle.std.specs.Option.{option_map}
 use Rattle.std.proofs.lemmas.Option.{same_Some}
 use Rattle.std.proofs.Math.Dec.{eqb-suc-suc, eqb-zero-suc, eqb-suc-zero}
@@ -16,8 +16,9 @@ use Rattle.flow_item.specs.Lists.{change_at}
 use Rattle.flow_item.specs.Events.{parties_of, both, ends}
 use Rattle.flow_item.specs.Legal.{takes_part, is_second}
 use Rattle.flow_machine.specs.State.{PlacedNode}
-use Rattle.flow_node.specs.Readied.{Readied, is_from, is_loop, handed}
-use Rattle.flow_nodes.specs.Stepping.{node_of, stepped_at, all_stepped, MayStep, ChangesAt, HasRoomAt, MayStepAt, same_node, after_event, brought, is_node, CanApply}
+use Rattle.flow_machine.specs.After.{link_of}
+use Rattle.flow_node.specs.Readied.{Readied, is_from, is_loop}
+use Rattle.flow_nodes.specs.Stepping.{node_of, stepped_at, all_stepped, MayStep, ChangesAt, IsPreparedAt, MayStepAt, same_node, after_event, is_node, CanApply}
 use Rattle.flow_nodes.proofs.ListLemmas.{get-set-same, get-set-other, same-by-get, get-map_places, same-nodes}
 
 -- ---- one place changed
@@ -90,6 +91,7 @@ pub record BothEnds (e : Event) (a b : ℕ) : Type 0 where
   pub from : is_from a e ≡ true
   pub to : is_from b e ≡ false
   pub apart : eqb a b ≡ false
+  pub over : IsSome (link_of e)
 
 link-ends : (l : Link) (a b : ℕ) → ends l ≡ both (Node a) (Node b) → eqb l.from l.to ≡ false → (eqb l.from a ≡ true) × (eqb l.from b ≡ false) × (eqb a b ≡ false)
 link-ends l a b h apart =
@@ -101,23 +103,23 @@ link-ends l a b h apart =
     (eq-eqb _ _ from, rw (← to) apart, rw (← from, ← to) apart)
 
 pub two-ends : (e : Event) (a b : ℕ) → parties_of e ≡ both (Node a) (Node b) → is_loop e ≡ false → BothEnds e a b
-two-ends (E.Give l i number land) a b h apart = let t = link-ends l a b h apart in record { from = t.0; to = t.1; apart = t.2 }
-two-ends (E.Refuse l i) a b h apart = let t = link-ends l a b h apart in record { from = t.0; to = t.1; apart = t.2 }
-two-ends (E.None l) a b h apart = let t = link-ends l a b h apart in record { from = t.0; to = t.1; apart = t.2 }
-two-ends (E.Hold l i number) a b h apart = let t = link-ends l a b h apart in record { from = t.0; to = t.1; apart = t.2 }
-two-ends (E.Take l i) a b h apart = let t = link-ends l a b h apart in record { from = t.0; to = t.1; apart = t.2 }
-two-ends (E.Free l i) a b h apart = let t = link-ends l a b h apart in record { from = t.0; to = t.1; apart = t.2 }
+two-ends (E.Give l i number land) a b h apart = let t = link-ends l a b h apart in record { from = t.0; to = t.1; apart = t.2; over = refl }
+two-ends (E.Refuse l i) a b h apart = let t = link-ends l a b h apart in record { from = t.0; to = t.1; apart = t.2; over = refl }
+two-ends (E.None l) a b h apart = let t = link-ends l a b h apart in record { from = t.0; to = t.1; apart = t.2; over = refl }
+two-ends (E.Hold l i number) a b h apart = let t = link-ends l a b h apart in record { from = t.0; to = t.1; apart = t.2; over = refl }
+two-ends (E.Take l i) a b h apart = let t = link-ends l a b h apart in record { from = t.0; to = t.1; apart = t.2; over = refl }
+two-ends (E.Free l i) a b h apart = let t = link-ends l a b h apart in record { from = t.0; to = t.1; apart = t.2; over = refl }
 two-ends e a b h apart = let second : (parties_of e).second ≡ Some (Node b) = ap (λ (p : Parties). p.second) h in let never : ⊥ = cc in absurd never
 
 -- an event of one node goes over no edge
-pub one-end : (e : Event) (a : ℕ) → is_loop e ≡ false → is_node (parties_of e).second ≡ false → handed a e ≡ brought e
-one-end (E.Give l i number land) a apart h = let never : true ≡ false = rw apart at h in cc
-one-end (E.Refuse l i) a apart h = let never : true ≡ false = rw apart at h in cc
-one-end (E.None l) a apart h = let never : true ≡ false = rw apart at h in cc
-one-end (E.Hold l i number) a apart h = let never : true ≡ false = rw apart at h in cc
-one-end (E.Take l i) a apart h = let never : true ≡ false = rw apart at h in cc
-one-end (E.Free l i) a apart h = let never : true ≡ false = rw apart at h in cc
-one-end e a apart h = refl
+pub one-end : (e : Event) → is_loop e ≡ false → is_node (parties_of e).second ≡ false → link_of e ≡ None
+one-end (E.Give l i number land) apart h = let never : true ≡ false = rw apart at h in cc
+one-end (E.Refuse l i) apart h = let never : true ≡ false = rw apart at h in cc
+one-end (E.None l) apart h = let never : true ≡ false = rw apart at h in cc
+one-end (E.Hold l i number) apart h = let never : true ≡ false = rw apart at h in cc
+one-end (E.Take l i) apart h = let never : true ≡ false = rw apart at h in cc
+one-end (E.Free l i) apart h = let never : true ≡ false = rw apart at h in cc
+one-end e apart h = refl
 
 pub one-party : (p : Option Party) (k : ℕ) → is_node p ≡ false → is_second p (Node k) ≡ false
 one-party None k h = refl
@@ -146,8 +148,8 @@ can-stay {old} {new} {at} e c can = record {
   may = λ k party. may-stay k e c (can.may k party);
 }
 
-pub room-stays : {old new : List Readied} {at : ℕ} {f : PlacedNode → PlacedNode} (k : ℕ) (e : Event) → ChangesAt old new at f → (at ≡ k → ⊥) → HasRoomAt old k e → HasRoomAt new k e
-room-stays k e c apart room q h = room q (sym (others-stay k c apart) ∙ h)
+pub prepared-stays : {old new : List Readied} {at : ℕ} {f : PlacedNode → PlacedNode} (k : ℕ) (e : Event) → ChangesAt old new at f → (at ≡ k → ⊥) → IsPreparedAt old k e → IsPreparedAt new k e
+prepared-stays k e c apart room q h = room q (sym (others-stay k c apart) ∙ h)
 
 -- one node made ready, and stepped
 pub one-stepped : {n0 n1 n2 : List Readied} (e : Event) (a : ℕ) → ChangesAt n0 n1 a same_node → ChangesAt n1 n2 a (after_event e) → ((k : ℕ) → takes_part (parties_of e) (Node k) ≡ eqb a k) → map node_of n2 ≡ all_stepped e (map node_of n0)

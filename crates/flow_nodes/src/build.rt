@@ -23,10 +23,7 @@ fn nodes_at_start(alloc: Global, shape: &Shape) -> Result<Vec<NodeState>, NoMemo
 {
     let mut nodes = Vec::new(alloc);
     for n in 0..shape.nodes.len() {
-        match shape.nodes.get(n) {
-            Some(kind) => nodes.push(NodeState::of_shape(alloc, shape, n as u32, kind)?)?,
-            None => unreachable!(),
-        }
+        nodes.push(NodeState::new(alloc, n as u32, shape)?)?;
     }
     Ok(nodes)
 }

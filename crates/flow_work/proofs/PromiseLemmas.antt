@@ -24,7 +24,7 @@ use Rattle.flow_node.specs.Built.{is_built}
 use Rattle.flow_work.specs.declared.plain.Ending.TheVariants as N
 use Rattle.flow_work.specs.declared.run.Refusal.TheVariants as R
 use Rattle.flow_machine.specs.Bodies.{Meanings, kept_from, bodies_kept}
-use Rattle.flow_machine.specs.Reservations.{IsSettled}
+use Rattle.flow_machine.specs.Settled.{IsSettled}
 use Rattle.flow_fates.proofs.OneFateLaw.{one-fate}
 use Rattle.flow_fates.proofs.LineageLaw.{lineages-end}
 use Rattle.flow_fates.proofs.ReservationLaw.{one-reservation}
@@ -41,7 +41,7 @@ use Rattle.flow_work.proofs.EndLemmas.{none-behind}
 use Rattle.flow_work.proofs.LimitLemmas.{within-at-start}
 use Rattle.flow_work.proofs.RunLemmas.{scheduled-snoc}
 
--- ---- at each start
+-- ---- at each prefix
 
 module _ (shape : Shape) (es : List Event) (valid : IsValid shape) (legal : is_legal shape es ≡ true) where
   start-legal : (before later : List Event) → es ≡ before ++ later → is_legal shape (before ++ later) ≡ true

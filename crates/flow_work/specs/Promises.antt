@@ -14,14 +14,15 @@ use Rattle.flow_shape.specs.declared.Kind.{Kind}
 use Rattle.flow_shape.specs.declared.Shape.{Shape}
 use Rattle.flow_shape.specs.declared.Step.{Step}
 use Rattle.flow_shape.specs.declared.Step.TheVariants as T
-use Rattle.flow_shape.specs.Kinds.{is_single}
+use Rattle.flow_shape.specs.Kinds.{is_single_push}
 use Rattle.flow_shape.specs.Wiring.{at_node}
 use Rattle.flow_machine.specs.Machine.{open_after, state_of, sum_of, modes_agree}
 use Rattle.flow_machine.specs.Scripts.{Sent, sent_of, script}
 use Rattle.flow_machine.specs.Schedule.{is_scheduled}
 use Rattle.flow_machine.specs.Ledger.{tally_of, gone_of, kept_items}
+use Rattle.flow_machine.specs.Reservations.{holds_match}
+use Rattle.flow_machine.specs.Limits.{limits_kept, passes_limit}
 use Rattle.flow_machine.specs.Bodies.{Meanings, bodies_kept}
-use Rattle.flow_machine.specs.Reservations.{holds_match, limits_kept, passes_limit}
 use Rattle.flow_fates.specs.Laws.{HasOneFate, HasLineage}
 use Rattle.flow_fates.specs.Lineage.{numbered, is_born, all_parents}
 use Rattle.flow_fates.specs.Reserved.{releases, moves_from, holds_nothing}
@@ -74,7 +75,7 @@ is_limit answer = false
 
 -- ---- at each moment of the run
 
--- it holds at each start of the journal
+-- it holds at each prefix of the journal
 abbrev pub AtEachStart : (List Event → Type 0) → List Event → Type 0
 AtEachStart Holds es = (before later : List Event) → es ≡ before ++ later → Holds before
 
@@ -112,7 +113,7 @@ KeepsBodies meanings shape es = bodies_kept meanings shape es ≡ true
 -- from a hold of a single-push node to the take or free of that edge and item, the node gives, holds, takes and frees no other
 abbrev pub HoldsReserve : Shape → List Event → Type 0
 HoldsReserve shape es =
-    (before between later : List Event) (l : Link) (item : Item) (hand : ℕ) (e : Event) → es ≡ before ++ E.Hold l item hand ∷ (between ++ e ∷ later) → at_node shape l.from is_single ≡ true →
+    (before between later : List Event) (l : Link) (item : Item) (hand : ℕ) (e : Event) → es ≡ before ++ E.Hold l item hand ∷ (between ++ e ∷ later) → at_node shape l.from is_single_push ≡ true →
     list_any (releases l.from l.edge item.id.no) between ≡ false → moves_from l.from e ≡ true → releases l.from l.edge item.id.no e ≡ true
 
 -- no hand, hold at a port or debt is left

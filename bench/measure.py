@@ -1,0 +1,164 @@
+#!/usr/bin/env python3
+"""Measures `flow plain` on documents of queues in a row, beside a yardstick that takes the same words.
+
+Both programs are run in turn, round by round, so that the load of the machine falls on both alike. Every output is
+checked, and a wrong one ends the measure.
+"""
+import argparse
+import filecmp
+import os
+import statistics
+import subprocess
+import sys
+import tempfile
+import time
+
+HERE = os.path.dirname(os.path.abspath(__file__))
+FLOW = os.path.join(HERE, "..", "crates", "flow", "out", "flow")
+
+# name, puts, queues in a row, further words
+CASES = [
+    ("60,000 puts, 3 queues", 60_000, 3, []),
+    ("600,000 puts, 3 queues", 600_000, 3, ["--items", "2000000"]),
+    ("500 puts, 500 queues", 500, 500, []),
+]
+
+
+def write_document(path, puts, queues):
+    """One caller puts 0, 1, 2 .. with rising tags into the first of the queues; the last is the sink."""
+    with open(path, "w", encoding="ascii") as out:
+        out.write('{"version":1,"nodes":[')
+        out.write(",".join('{"name":"q%d","kind":"queue"}' % n for n in range(queues)))
+        out.write('],"edges":[')
+        out.write(",".join('{"from":"q%d","to":"q%d"}' % (n, n + 1) for n in range(queues - 1)))
+        out.write('],"callers":[[')
+        for k in range(puts):
+            out.write('%s{"put":"q0","tag":%d,"val":%d}' % ("," if k else "", k, k))
+        out.write(']],"sinks":["q%d"]}\n' % (queues - 1))
+
+
+class Case:
+    """A document with what is known of its run."""
+
+    def __init__(self, folder, name, puts, queues, words):
+        self.name, self.words = name, words
+        self.path = os.path.join(folder, "%d_%d.json" % (puts, queues))
+        write_document(self.path, puts, queues)
+        self.events = puts * queues + 1 + queues
+        self.last_line = "events %d items %d refused 0 status 0" % (self.events, puts * queues)
+
+
+class Program:
+    """A program with its measures, by case."""
+
+    def __init__(self, name, path):
+        self.name, self.path = name, path
+        self.wall, self.cpu, self.peak = {}, {}, {}
+
+    def run(self, case, out_path, counted):
+        """Runs the case once, checks the last line, and keeps the measures where the round is counted."""
+        with open(case.path, "rb") as source, open(out_path, "wb") as out:
+            begin = time.perf_counter()
+            child = subprocess.Popen([self.path, "plain"] + case.words, stdin=source, stdout=out)
+            _, status, usage = os.wait4(child.pid, 0)
+            wall = time.perf_counter() - begin
+            child.returncode = os.waitstatus_to_exitcode(status)
+        if child.returncode != 0:
+            sys.exit("%s ended with %d on %s" % (self.path, child.returncode, case.name))
+        line = last_line(out_path)
+        if line != case.last_line:
+            sys.exit("%s on %s: the last line is %r and not %r" % (self.path, case.name, line, case.last_line))
+        if counted:
+            self.wall.setdefault(case.name, []).append(wall)
+            self.cpu.setdefault(case.name, []).append(usage.ru_utime + usage.ru_stime)
+            self.peak.setdefault(case.name, []).append(usage.ru_maxrss / 1024)
+
+    def median(self, measures, case):
+        return statistics.median(measures[case.name])
+
+    def nanoseconds(self, measures, case):
+        return self.median(measures, case) / case.events * 1e9
+
+
+def last_line(path):
+    with open(path, "rb") as text:
+        text.seek(0, os.SEEK_END)
+        text.seek(max(0, text.tell() - 300))
+        return text.read().decode(errors="replace").rstrip("\n").rsplit("\n", 1)[-1]
+
+
+def measure(programs, cases, rounds, folder, last_lines_alone):
+    """One round that isn't counted, then so many that are."""
+    outs = [os.path.join(folder, "out_%d" % k) for k in range(len(programs))]
+    for turn in range(rounds + 1):
+        for case in cases:
+            for program, out in zip(programs, outs):
+                program.run(case, out, counted=turn > 0)
+            if len(programs) > 1 and not last_lines_alone and not filecmp.cmp(outs[0], outs[1], shallow=False):
+                sys.exit("%s and %s print different reports for %s" % (programs[0].path, programs[1].path, case.name))
+
+
+def print_table(programs, cases):
+    print("| Document | Events | Program | Wall, median | Wall, best | CPU, median | Peak memory | Per event |")
+    print("|---|---|---|---|---|---|---|---|")
+    for case in cases:
+        for p in programs:
+            print("| %s | %s | %s | %.3f s | %.3f s | %.3f s | %.0f MB | %.0f ns |" % (
+                case.name, format(case.events, ","), p.name, p.median(p.wall, case), min(p.wall[case.name]),
+                p.median(p.cpu, case), p.median(p.peak, case), p.nanoseconds(p.wall, case)))
+
+
+def print_ratios(programs, cases):
+    flow, yardstick = programs
+    print()
+    print("| Document | Wall | Wall, best | CPU | Peak memory |")
+    print("|---|---|---|---|---|")
+    for case in cases:
+        print("| %s, %s to %s | %.2f | %.2f | %.2f | %.2f |" % (
+            case.name, flow.name, yardstick.name,
+            flow.median(flow.wall, case) / yardstick.median(yardstick.wall, case),
+            min(flow.wall[case.name]) / min(yardstick.wall[case.name]),
+            flow.median(flow.cpu, case) / yardstick.median(yardstick.cpu, case),
+            flow.median(flow.peak, case) / yardstick.median(yardstick.peak, case)))
+
+
+def print_growth(programs, cases):
+    small, large, long_row = cases
+    print()
+    print("| Time per event | " + " | ".join(p.name for p in programs) + " |")
+    print("|---|" + "---|" * len(programs))
+    for name, over in (("600,000 puts to 60,000", large), ("500 queues to 3", long_row)):
+        for word, of in (("wall", lambda p: p.wall), ("CPU", lambda p: p.cpu)):
+            ratios = ["%.2f" % (p.nanoseconds(of(p), over) / p.nanoseconds(of(p), small)) for p in programs]
+            print("| %s, %s | %s |" % (name, word, " | ".join(ratios)))
+
+
+def main():
+    parser = argparse.ArgumentParser(description=__doc__.splitlines()[0])
+    parser.add_argument("--flow", default=FLOW, help="the program (default: crates/flow/out/flow)")
+    parser.add_argument("--yardstick", help="a program to compare with, which takes the same words")
+    parser.add_argument("--rounds", type=int, default=7, help="counted rounds (default: 7)")
+    parser.add_argument("--last-line-alone", action="store_true",
+                        help="don't compare the reports, only check the last line of each")
+    options = parser.parse_args()
+    programs = [Program("flow", options.flow)]
+    if options.yardstick:
+        programs.append(Program("yardstick", options.yardstick))
+    for p in programs:
+        if not os.access(p.path, os.X_OK):
+            sys.exit("no program at %s" % p.path)
+    load = os.getloadavg()[0]
+    with tempfile.TemporaryDirectory() as folder:
+        cases = [Case(folder, *c) for c in CASES]
+        measure(programs, cases, max(1, options.rounds), folder, options.last_line_alone)
+    print("%d rounds, %d processors, load %.1f before and %.1f after" % (
+        max(1, options.rounds), os.cpu_count(), load, os.getloadavg()[0]))
+    print()
+    print_table(programs, cases)
+    if options.yardstick:
+        print_ratios(programs, cases)
+    print_growth(programs, cases)
+
+
+if __name__ == "__main__":
+    main()

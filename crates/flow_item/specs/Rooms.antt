@@ -1,0 +1,19 @@
+-- A list with the room that it has left, as contracts see it.
+use Rattle.std.specs.Prelude.{ℕ, ◌-◌, ◌^◌, min, List, refl}
+use Rattle.std.specs.Coded.{Coded, code_by, coded×, coded_list, coded_ℕ}
+
+-- the members, and how many more can be pushed without asking for memory
+pub record Roomy (X : Type 0) : Type 0 where
+  pub items : List X
+  pub spare : ℕ
+
+module _ {X : Type 0} where
+  abbrev pub roomy : List X → ℕ → Roomy X
+  roomy xs n = record { items = xs; spare = n }
+
+  abbrev pub roomy_code : Coded X → Coded (Roomy X)
+  roomy_code c = code_by (List X × ℕ) (coded× (coded_list c) coded_ℕ) (λ r. (r.items, r.spare)) (λ p. roomy p.0 p.1) (λ _. refl)
+
+-- the places that are free where so many are taken: no list gets to 2 ^ 62 members
+abbrev pub free_places : ℕ → ℕ → ℕ
+free_places capacity taken = min capacity (2 ^ 62 - 1) - taken
