@@ -22,7 +22,7 @@ use Rattle.flow_cli.specs.Words.{begins_with, is_faultless, is_line_of, is_set, 
 -- ---- the number of items
 
 pub told : (text : List ℕ) (n : ℕ) → (IsNumeral 10 (without_leading_plus text) × (digits_value 10 (without_leading_plus text) < 2 ^ 64)) × (n ≡ digits_value 10 (without_leading_plus text)) → n ≤ 2000000 → n ≡ items_of text
-told text n h low = go (accepts false (P.Unsigned 0 2000000) text) (Accepts-accepts false (P.Unsigned 0 2000000) text (h.0.0, h.0.1, omega (arith, h.1), omega (arith, h.1))) 
+told text n h low = go (accepts false (P.Unsigned 0 2000000) text) (Accepts-accepts false (P.Unsigned 0 2000000) text (h.0.0, h.0.1, omega (arith, h.1), omega (arith, h.1)))
   where
     go : (b : Bool) → b ≡ true → n ≡ cond b (digits_value 10 (without_leading_plus text)) 1000000
     go true e = h.1
