@@ -1,0 +1,4 @@
+pub mod WordLemmas
+pub mod Built
+pub mod Births
+pub mod PlainLemmas

@@ -1,0 +1,89 @@
+-- What clap's clauses give of a command line.
+use Rattle.std.proofs.Common.{◌≡◌, ◌∙◌, ◌≤◌, ◌<◌, ◌^◌, ℕ, Bool, true, false, cond, List, [], ◌∷◌, map, length, Option, Some, None, option_map, codes, refl, sym, ap, arith, inl, inr}
+use Rattle.std.specs.Prelude.{slice_get}
+use Rattle.std.specs.Borrow.{Bor}
+use Rattle.std.specs.Option.{option_map_or}
+use Rattle.std.specs.Str.{bytes_eq}
+use Rattle.std.specs.Str.Parse.{IsNumeral, digits_value, without_leading_plus}
+use Rattle.clap.specs.ValueTests.{accepts}
+use Rattle.clap.specs.Values.{Accepts, kind_of}
+use Rattle.clap.specs.Words.{App, HasKind, HasMatchesOf, Kinds, Row, Text, app_of, fault_of, first_of, first_value, found_of, is_simple, is_simple_and_free, matches_of, rows_of}
+use Rattle.clap.specs.declared.error.Error.{Error}
+use Rattle.clap.specs.declared.error.kind.ErrorKind.TheVariants.{OutOfMemory}
+use Rattle.clap.specs.declared.builder.value_parser.ValueParser.TheVariants as P
+use Rattle.clap.specs.declared.parser.matches.Found.{Found}
+use Rattle.clap.proofs.OnLiterals.{clap_on_literals}
+use Rattle.clap.proofs.ValueTestLemmas.{Accepts-accepts, accepts-Accepts}
+use Rattle.clap.proofs.WalkLemmas.{first_value-rows}
+use Rattle.clap.specs.declared.builder.command.Command.{Command}
+use Rattle.clap.specs.declared.parser.matches.ArgMatches.{ArgMatches}
+use Rattle.flow_cli.specs.Words.{begins_with, is_faultless, is_line_of, is_set, items_in, items_of, options_in, plain_app, plain_options}
+
+-- ---- the number of items
+
+pub told : (text : List ℕ) (n : ℕ) → (IsNumeral 10 (without_leading_plus text) × (digits_value 10 (without_leading_plus text) < 2 ^ 64)) × (n ≡ digits_value 10 (without_leading_plus text)) → n ≤ 2000000 → n ≡ items_of text
+told text n h low = go (accepts false (P.Unsigned 0 2000000) text) (Accepts-accepts false (P.Unsigned 0 2000000) text (h.0.0, h.0.1, omega (arith, h.1), omega (arith, h.1)))
+  where
+    go : (b : Bool) → b ≡ true → n ≡ cond b (digits_value 10 (without_leading_plus text)) 1000000
+    go true e = h.1
+    go false e = cc
+
+untold : (text : List ℕ) → (Accepts false (P.Unsigned 0 2000000) text → ⊥) → 1000000 ≡ items_of text
+untold text never = go (accepts false (P.Unsigned 0 2000000) text) refl
+  where
+    go : (b : Bool) → accepts false (P.Unsigned 0 2000000) text ≡ b → 1000000 ≡ cond b (digits_value 10 (without_leading_plus text)) 1000000
+    go true e = absurd (never (accepts-Accepts false (P.Unsigned 0 2000000) text e))
+    go false e = refl
+
+pub no-number : (text : List ℕ) → (IsNumeral 10 (without_leading_plus text) × (digits_value 10 (without_leading_plus text) < 2 ^ 64) → ⊥) → 1000000 ≡ items_of text
+no-number text never = untold text (λ a. never (a.0, a.1))
+
+-- ---- values by their rows
+
+pub seen : (f : Found) (id : Text) (o : Option (Bor Text)) (v : Option Text) → option_map (λ s. s.now) o ≡ first_value f id → option_map (λ s. s.now) o ≡ v → first_of id (rows_of f) ≡ v
+seen f id o v h e = sym (first_value-rows f id) ∙ (sym h ∙ e)
+
+pub is-set : (f : Found) (id : Text) (o : Option (Bor Text)) (v : Option Text) (b : Bool) → option_map (λ s. s.now) o ≡ first_value f id → option_map (λ s. s.now) o ≡ v → b ≡ option_map_or (λ text. bytes_eq text (codes "true")) v false → b ≡ is_set id (rows_of f)
+is-set f id o v b h e is = is ∙ ap (λ (u : Option Text). option_map_or (λ text. bytes_eq text (codes "true")) u false) (sym (seen f id o v h e))
+
+pub items-in : (f : Found) (o : Option (Bor Text)) (v : Option Text) (n : ℕ) → option_map (λ s. s.now) o ≡ first_value f (codes "items") → option_map (λ s. s.now) o ≡ v → n ≡ option_map_or items_of v 1000000 → n ≡ items_in (rows_of f)
+items-in f o v n h e is = is ∙ ap (λ (u : Option Text). option_map_or items_of u 1000000) (sym (seen f (codes "items") o v h e))
+
+-- ---- lines of the command
+
+pub is_plain : is_simple_and_free plain_app ≡ true
+unfolding clap_on_literals
+is_plain = refl
+
+pub is_matched : is_simple plain_app ≡ true
+unfolding clap_on_literals
+is_matched = refl
+
+pub begins : {X : Type 0} (text : X → Text) (ws : List X) (w : X) (name : Text) (b : Bool) → slice_get ws 0 ≡ Some w → b ≡ bytes_eq (text w) name → b ≡ begins_with name (map text ws)
+begins text [] w name b e is = cc
+begins text (x ∷ xs) w name b e is = let same : x ≡ w = cc in is ∙ ap (λ y. bytes_eq (text y) name) (sym same)
+
+line-is : (words : List Text) (b : Bool) → begins_with (codes "plain") words ≡ true → is_faultless (fault_of plain_app words) ≡ b → is_line_of plain_app words ≡ b
+line-is words b named k = rw (named, k) refl
+
+among : (e : Error) (ks : Kinds) → HasKind ks e → (kind_of e ≡ OutOfMemory → ⊥) → is_faultless ks ≡ false
+among e [] (inl h) never = absurd (never h)
+among e [] (inr h) never = absurd h
+among e (k ∷ ks) h never = refl
+
+-- words that clap takes
+pub accepted : (words : List Text) (c : Command) (m : ArgMatches) → begins_with (codes "plain") words ≡ true → app_of c ≡ plain_app → (is_simple_and_free (app_of c) ≡ true → fault_of (app_of c) words ≡ []) → HasMatchesOf (app_of c) words m → Some (options_in (rows_of (found_of m))) ≡ plain_options words
+accepted words c m named same faults matches =
+    let none : fault_of (app_of c) words ≡ [] = faults (ap is_simple_and_free same ∙ is_plain) in
+    let clean : is_faultless (fault_of plain_app words) ≡ true = ap is_faultless (sym (ap (λ (b : App). fault_of b words) same) ∙ none) in
+    let line : is_line_of plain_app words ≡ true = line-is words true named clean in
+    let rows : rows_of (found_of m) ≡ matches_of plain_app words = (matches (ap is_simple same ∙ is_matched)).0 ∙ ap (λ (b : App). matches_of b words) same in
+    rw line (ap (λ (r : List Row). Some (options_in r)) rows)
+
+-- words that clap refuses
+pub refused : (words : List Text) (c : Command) (e : Error) → begins_with (codes "plain") words ≡ true → app_of c ≡ plain_app → (is_simple_and_free (app_of c) ≡ true → HasKind (fault_of (app_of c) words) e) → (kind_of e ≡ OutOfMemory → ⊥) → None ≡ plain_options words
+refused words c e named same faults never =
+    let unclean : is_faultless (fault_of (app_of c) words) ≡ false = among e (fault_of (app_of c) words) (faults (ap is_simple_and_free same ∙ is_plain)) never in
+    let faulty : is_faultless (fault_of plain_app words) ≡ false = ap (λ (b : App). is_faultless (fault_of b words)) (sym same) ∙ unclean in
+    let line : is_line_of plain_app words ≡ false = line-is words false named faulty in
+    rw line refl

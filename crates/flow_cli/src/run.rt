@@ -1,0 +1,95 @@
+// The run of a document, and its report.
+ghost use Rattle.std.specs.Prelude.{◌≡◌, ◌<◌, true, is_some, OnOk};
+ghost use Rattle.std.specs.List.{list_all};
+ghost use Rattle.flow_doc.specs.Fits.{doc_fits};
+ghost use Rattle.flow_io.specs.Streams.{Rose};
+ghost use Rattle.flow_node.specs.Built.{is_built};
+ghost use Rattle.flow_print.specs.Replayed.{AreStates};
+ghost use Rattle.flow_print.specs.Report.{run_status, MayBePrinted};
+ghost use Rattle.flow_work.specs.Plain.{outcome_of, HandsOn};
+ghost use Rattle.flow_work.specs.Promises.{IsFresh, is_limit};
+ghost use Rattle.flow_cli.specs.Steps.{IsEnded, IsRun, IsWhole, report_ending};
+
+use crate::lines::say;
+use crate::words::Options;
+use flow_doc::{Doc, Kept};
+use flow_io::Sink;
+use flow_item::Event;
+use flow_nodes::Nodes;
+use flow_print::{PrintFault, Status, memory_text, print_report_of};
+use flow_work::{Ending, run_plain_with_nodes};
+use std::alloc::Global;
+
+/// The most events of a run.
+const MOST_EVENTS: u64 = 32_000_000;
+
+// Runs a document, and keeps it with what it came to.
+fn run_kept(alloc: Global, options: Options, doc: Doc, kept: &mut Kept) -> Ending
+    requires fits { doc_fits 0 doc ≡ true }
+    requires built { list_all is_built doc.shape.nodes ≡ true }
+    requires version { doc.version < 3 }
+    requires fresh { IsFresh kept.old }
+    ensures run { IsRun options doc kept.new }
+    ensures whole { OnOk (outcome_of result) (IsWhole doc kept.new) }
+    ensures limit { is_some kept.new.refused ≡ is_limit (outcome_of result) }
+    ensures nodes { HandsOn doc.shape kept.new.journal result }
+{
+    let ending = run_plain_with_nodes(alloc, &doc, options.items, MOST_EVENTS, kept);
+    kept.doc = Some(doc);
+    ending
+}
+
+fn run_status(refused: &Option<Event>) -> Status
+    ensures { result ≡ run_status refused.now }
+{
+    match refused {
+        None => Status::Done,
+        Some(_) => Status::Limit,
+    }
+}
+
+// Writes the report of what is kept, or where memory runs out before anything was written, the line that says so.
+fn print_kept<K: Sink>(
+    alloc: Global,
+    kept: &Kept,
+    nodes: &Nodes,
+    options: Options,
+    sink: &mut K,
+) -> Status
+    requires kept { MayBePrinted kept.now.doc kept.now.journal }
+    requires states { AreStates kept.now.doc kept.now.journal nodes.now }
+    ensures ended { IsEnded (report_ending options kept.now) result (K.written sink.old) (K.written sink.new) }
+    ensures cause { result ≡ Status.Write → Rose (K.faults sink.old) (K.faults sink.new) (K.is_full sink.new) }
+{
+    let status = run_status(&kept.refused);
+    match print_report_of(alloc, kept, nodes, status, options.journal, sink) {
+        Ok(()) => status,
+        Err(PrintFault::Write) => Status::Write,
+        Err(PrintFault::Cut) => Status::Memory,
+        Err(PrintFault::Memory) => say(sink, memory_text(), Status::Memory),
+    }
+}
+
+/// Runs a document and writes the report.
+pub(crate) fn run_document<K: Sink>(
+    alloc: Global,
+    options: Options,
+    doc: Doc,
+    sink: &mut K,
+    kept: &mut Kept,
+) -> Status
+    requires fits { doc_fits 0 doc ≡ true }
+    requires built { list_all is_built doc.shape.nodes ≡ true }
+    requires version { doc.version < 3 }
+    requires fresh { IsFresh kept.old }
+    ensures run { IsRun options doc kept.new }
+    ensures ended { IsEnded (report_ending options kept.new) result (K.written sink.old) (K.written sink.new) }
+    ensures whole { result ≡ Status.Done → IsWhole doc kept.new }
+    ensures cause { result ≡ Status.Write → Rose (K.faults sink.old) (K.faults sink.new) (K.is_full sink.new) }
+{
+    match run_kept(alloc, options, doc, kept) {
+        Ending::Settled(nodes) => print_kept(alloc, kept, &nodes, options, sink),
+        Ending::Limit(nodes) => print_kept(alloc, kept, &nodes, options, sink),
+        Ending::Memory => say(sink, memory_text(), Status::Memory),
+    }
+}

@@ -1,0 +1,104 @@
+// The words of a command line.
+ghost use Rattle.std.specs.Prelude.{◌≡◌, IfOk, map, string_bytes};
+ghost use Rattle.clap.specs.Words.{app_of, found_of, rows_of};
+ghost use Rattle.flow_cli.specs.Words.{plain_app, plain_options, begins_with, is_set, items_in, items_of};
+
+use clap::builder::ValueParser;
+use clap::error::ErrorKind;
+use clap::{Arg, ArgAction, ArgMatches, Command};
+use flow_item::NoMemory;
+use std::alloc::{AllocError, Global};
+
+/// The most items that a run may be told to bear.
+const MOST_ITEMS: u64 = 2_000_000;
+
+/// The items that a run may bear where no number is told.
+const USUAL_ITEMS: u64 = 1_000_000;
+
+/// What the words ask of a run.
+#[derive(Clone, Copy, Debug)]
+pub struct Options {
+    /// The report has the journal.
+    pub journal: bool,
+    /// The run ends where so many items were born.
+    pub items: u64,
+}
+
+// The command `plain` with its options.
+fn plain_command<'a>(alloc: Global) -> Result<Command<'a>, AllocError>
+    ensures { IfOk result (λ c. app_of c ≡ plain_app) }
+{
+    let journal = Arg::new(alloc, "journal")
+        .long("journal")
+        .action(ArgAction::SetTrue);
+    let items = Arg::new(alloc, "items")
+        .long("items")
+        .action(ArgAction::Set)
+        .value_parser(ValueParser::Unsigned(0, MOST_ITEMS))
+        .default_value("1000000");
+    Command::new(alloc, "plain").arg(journal)?.arg(items)
+}
+
+// The number of items that a text tells.
+fn items_of(text: &str) -> u64
+    ensures { result ≡ items_of text.now }
+{
+    match text.parse::<u64>() {
+        Ok(items) => {
+            if items <= MOST_ITEMS {
+                items
+            } else {
+                USUAL_ITEMS
+            }
+        }
+        Err(_) => USUAL_ITEMS,
+    }
+}
+
+fn items_in(matches: &ArgMatches<'_>) -> u64
+    ensures { result ≡ items_in (rows_of (found_of matches.now)) }
+{
+    match matches.get_str("items") {
+        Some(text) => items_of(text),
+        None => USUAL_ITEMS,
+    }
+}
+
+fn is_set(matches: &ArgMatches<'_>, id: &str) -> bool
+    ensures { result ≡ is_set id.now (rows_of (found_of matches.now)) }
+{
+    match matches.get_str(id) {
+        Some(text) => text == "true",
+        None => false,
+    }
+}
+
+fn is_named(words: &[String], name: &str) -> bool
+    ensures { result ≡ begins_with name.now (map string_bytes words.now) }
+{
+    match words.first() {
+        Some(word) => word.as_str() == name,
+        None => false,
+    }
+}
+
+/// What the words ask of `plain`, where they are a line of it.
+pub fn plain_words(alloc: Global, words: &[String]) -> Result<Option<Options>, NoMemory>
+    ensures { IfOk result (λ options. options ≡ plain_options (map string_bytes words.now)) }
+{
+    if !is_named(words, "plain") {
+        return Ok(None);
+    }
+    let command = plain_command(alloc)?;
+    match command.try_get_matches_from(words) {
+        Ok(matches) => {
+            let journal = is_set(&matches, "journal");
+            let items = items_in(&matches);
+            Ok(Some(Options { journal, items }))
+        }
+        Err(error) => match error.kind() {
+            ErrorKind::OutOfMemory => Err(NoMemory),
+            _ => Ok(None),
+        },
+    }
+}
