@@ -1,4 +1,7 @@
 ghost use Rattle.std.specs.Prelude.{◌≡◌, true, length, slice_get, Some, ℕ};
+ghost use Rattle.flow_item.specs.declared.event.Party.TheVariants.{Node};
+ghost use Rattle.flow_item.specs.Events.{parties_of};
+ghost use Rattle.flow_item.specs.Legal.{takes_part};
 ghost use Rattle.flow_shape.specs.declared.Kind.{Kind};
 ghost use Rattle.flow_machine.specs.Ledger.{tally_add};
 ghost use Rattle.flow_tally.specs.declared.tallies.Tally.{Tally};
@@ -148,10 +151,7 @@ fn end(alloc: Global, count: u64) -> Result<Event, Fail> {
 fn form(alloc: Global) -> Result<Event, Fail> {
     let mut parts = Ids::new(alloc);
     for no in 0..2 {
-        parts
-            .push(Id { node: NODE, no })
-            .ok()
-            .ok_or("memory")?;
+        parts.push(Id { node: NODE, no }).ok().ok_or("memory")?;
     }
     Ok(Event::Form {
         node: NODE,
@@ -186,8 +186,18 @@ fn rows_of_callers(rows: &mut Vec<Row>) -> Result<(), AllocError> {
     };
     add_row(rows, QUEUE, accepted(Land::Kept), [10, 1, 1, 1, 1, 6])?;
     add_row(rows, limiter, accepted(Land::Eaten), [10, 1, 2, 1, 1, 5])?;
-    add_row(rows, Kind::Broadcast, accepted(Land::Lost), [10, 1, 1, 2, 1, 5])?;
-    add_row(rows, Kind::Overwrite, accepted(Land::Over), [10, 1, 1, 1, 2, 5])?;
+    add_row(
+        rows,
+        Kind::Broadcast,
+        accepted(Land::Lost),
+        [10, 1, 1, 2, 1, 5],
+    )?;
+    add_row(
+        rows,
+        Kind::Overwrite,
+        accepted(Land::Over),
+        [10, 1, 1, 1, 2, 5],
+    )?;
     let refused = put(PutAnswer::Refused(Cause::Busy(1)));
     add_row(rows, function(), refused, SAME)?;
     let input = Kind::Input {
@@ -211,7 +221,12 @@ fn rows_of_callers(rows: &mut Vec<Row>) -> Result<(), AllocError> {
 /// Events of edges.
 fn rows_of_edges(rows: &mut Vec<Row>) -> Result<(), AllocError> {
     add_row(rows, QUEUE, give(INTO, Land::Kept), [10, 1, 1, 1, 1, 6])?;
-    add_row(rows, Kind::Sequencer, give(INTO, Land::Lost), [10, 1, 1, 2, 1, 5])?;
+    add_row(
+        rows,
+        Kind::Sequencer,
+        give(INTO, Land::Lost),
+        [10, 1, 1, 2, 1, 5],
+    )?;
     add_row(rows, QUEUE, give(OUT_OF, Land::Lost), [9, 2, 1, 1, 1, 4])?;
     add_row(rows, Kind::Overwrite, give(OUT_OF, Land::Eaten), SAME)?;
     let take = Event::Take {
@@ -319,7 +334,8 @@ fn adds_each_event(rt: HostRuntime) -> Result<(), Fail> {
 fn two_are_small(tallies: &Tallies, shape: &Shape, e: &Event) -> bool
     ensures count { result ≡ true → length tallies.now ≡ length shape.now.nodes }
     ensures fits { result ≡ true → (n : ℕ) (k : Kind) (t : Tally) → slice_get shape.now.nodes n ≡ Some k
-        → slice_get tallies.now n ≡ Some t → IsSmall (tally_add n k (without_kept t) e.now) }
+        → slice_get tallies.now n ≡ Some t → takes_part (parties_of e.now) (Node n) ≡ true
+        → IsSmall (tally_add n k (without_kept t) e.now) }
 {
     if tallies.len() != 2 || shape.nodes.len() != 2 {
         return false;
@@ -337,6 +353,15 @@ fn two_are_small(tallies: &Tallies, shape: &Shape, e: &Event) -> bool
         return false;
     };
     is_small(tally, 0, kind, e) && is_small(next, 1, next_kind, e)
+}
+
+/// Adds the event where each number of the two ledgers with it fits its type, and tells whether.
+fn is_added(tallies: &mut Tallies, shape: &Shape, e: &Event) -> bool {
+    let small = two_are_small(tallies, shape, e);
+    if small {
+        tallies.add(shape, e);
+    }
+    small
 }
 
 /// A queue that gives to a queue.
@@ -384,10 +409,7 @@ fn adds_a_run_of_two_queues(rt: HostRuntime) -> Result<(), Fail> {
     let run = vec![in rt.alloc(); put, leave, given, idle, idle_too]?;
     let mut tallies = Tallies::new(rt.alloc(), 2).ok().ok_or("memory")?;
     for event in run.iter() {
-        assert!(rt; two_are_small(&tallies, &shape, event));
-        if two_are_small(&tallies, &shape, event) {
-            tallies.add(&shape, event);
-        }
+        assert!(rt; is_added(&mut tallies, &shape, event));
     }
     let giver = tallies.get(0).ok_or("a ledger")?;
     assert_eq!(rt; numbers(giver).as_slice(), [1u64, 1, 0, 0, 0, 0].as_slice());
