@@ -1,7 +1,7 @@
 // The lines of faults, written.
 ghost use Rattle.std.specs.Prelude.{◌≡◌};
 ghost use Rattle.flow_io.specs.Streams.{Rose};
-ghost use Rattle.flow_print.specs.Faults.{fault_status};
+ghost use Rattle.flow_print.specs.Faults.{fault_status, memory_text};
 ghost use Rattle.flow_print.specs.Outputs.{bad_document};
 ghost use Rattle.flow_cli.specs.Steps.{IsSaid, IsEnded, fault_ending};
 
@@ -25,6 +25,15 @@ pub(crate) fn say<K: Sink>(sink: &mut K, text: &str, status: Status) -> Status
     }
 }
 
+/// Writes the line where memory ran out before anything else was written. The status is that of a failed write where
+/// writing fails.
+pub fn tell_no_memory<K: Sink>(sink: &mut K) -> Status
+    ensures said { IsSaid memory_text Status.Memory result (K.written sink.old) (K.written sink.new) }
+    ensures cause { result ≡ Status.Write → Rose (K.faults sink.old) (K.faults sink.new) (K.is_full sink.new) }
+{
+    say(sink, memory_text(), Status::Memory)
+}
+
 fn fault_status(fault: &DocFault) -> Status
     ensures { result ≡ fault_status fault.now }
 {
@@ -43,7 +52,7 @@ fn refuse_document<K: Sink>(alloc: Global, fault: &DocFault, sink: &mut K) -> St
 {
     match fault_text(alloc, fault) {
         Ok(text) => say(sink, text.as_str(), fault_status(fault)),
-        Err(_) => say(sink, memory_text(), Status::Memory),
+        Err(_) => tell_no_memory(sink),
     }
 }
 

@@ -10,13 +10,13 @@ ghost use Rattle.flow_work.specs.Plain.{outcome_of, HandsOn};
 ghost use Rattle.flow_work.specs.Promises.{IsFresh, is_limit};
 ghost use Rattle.flow_cli.specs.Steps.{IsEnded, IsRun, IsWhole, report_ending};
 
-use crate::lines::say;
+use crate::lines::tell_no_memory;
 use crate::words::Options;
 use flow_doc::{Doc, Kept};
 use flow_io::Sink;
 use flow_item::Event;
 use flow_nodes::Nodes;
-use flow_print::{PrintFault, Status, memory_text, print_report_of};
+use flow_print::{PrintFault, Status, print_report_of};
 use flow_work::{Ending, run_plain_with_nodes};
 use std::alloc::Global;
 
@@ -66,7 +66,7 @@ fn print_kept<K: Sink>(
         Ok(()) => status,
         Err(PrintFault::Write) => Status::Write,
         Err(PrintFault::Cut) => Status::Memory,
-        Err(PrintFault::Memory) => say(sink, memory_text(), Status::Memory),
+        Err(PrintFault::Memory) => tell_no_memory(sink),
     }
 }
 
@@ -90,6 +90,6 @@ pub(crate) fn run_document<K: Sink>(
     match run_kept(alloc, options, doc, kept) {
         Ending::Settled(nodes) => print_kept(alloc, kept, &nodes, options, sink),
         Ending::Limit(nodes) => print_kept(alloc, kept, &nodes, options, sink),
-        Ending::Memory => say(sink, memory_text(), Status::Memory),
+        Ending::Memory => tell_no_memory(sink),
     }
 }

@@ -7,13 +7,27 @@ ghost use Rattle.flow_cli.specs.Plain.{KeepsDocument, OfRun, IsLegalRun, IsRefus
 ghost use Rattle.flow_cli.specs.Steps.{IsAnswer};
 
 use crate::input::read_input;
-use crate::lines::{refuse, say};
+use crate::lines::{refuse, say, tell_no_memory};
 use crate::run::run_document;
 use crate::words::{Options, plain_words};
-use flow_doc::Kept;
+use flow_doc::{Kept, Lives};
 use flow_io::{Sink, Source};
-use flow_print::{Status, memory_text, words_text};
+use flow_item::Journal;
+use flow_print::{Status, words_text};
 use std::alloc::Global;
+
+/// What is kept before a command.
+pub fn nothing_kept(alloc: Global) -> Kept
+    ensures none { result.doc ≡ None }
+    ensures fresh { IsFresh result }
+{
+    Kept {
+        doc: None,
+        journal: Journal::new(alloc),
+        refused: None,
+        live: Lives::new(alloc),
+    }
+}
 
 // A line of `plain`: reads, runs and writes.
 fn run_line<S: Source, K: Sink>(
@@ -62,6 +76,6 @@ pub fn plain_top<S: Source, K: Sink>(
     match plain_words(alloc, words) {
         Ok(Some(options)) => run_line(alloc, options, source, sink, kept),
         Ok(None) => say(sink, words_text(), Status::Words),
-        Err(_) => say(sink, memory_text(), Status::Memory),
+        Err(_) => tell_no_memory(sink),
     }
 }
