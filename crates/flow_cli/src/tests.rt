@@ -6,7 +6,8 @@ use std::alloc::Global;
 use std::process::Abort;
 use std::test::Fail;
 
-const ONE_QUEUE: &str = "{\"version\":1,\"nodes\":[{\"name\":\"q\",\"kind\":\"queue\"}],\"edges\":[],\"callers\":[[{\"put\":\"q\",\"val\":5}]],\"sinks\":[\"q\"]}";
+const ONE_QUEUE: &str =
+    "{\"version\":1,\"nodes\":[{\"name\":\"q\",\"kind\":\"queue\"}],\"edges\":[],\"callers\":[[{\"put\":\"q\",\"val\":5}]],\"sinks\":[\"q\"]}";
 
 fn words_of(alloc: Global, line: &str) -> Result<Vec<String>, Fail> {
     let mut words = Vec::new(alloc);
@@ -60,21 +61,65 @@ fn expect(
     let mut sink = sink(alloc);
     let (status, _) = call(alloc, line, &mut source, &mut sink)?;
     assert_eq!(rt; status.code(), code, "{line} < {input}");
-    assert_eq!(rt; sink.bytes.as_slice(), output.as_bytes(), "{line} < {input}");
+    assert_eq!(rt;
+        sink.bytes.as_slice(),
+        output.as_bytes(),
+        "{line} < {input}"
+    );
     Ok(())
 }
 
 #[test]
 fn reports(rt: HostRuntime) -> Result<(), Fail> {
     let rows = [
-        ("plain", ONE_QUEUE, 0, "sinks 1\nq 1\n0 5\ntally 1\nq in 1 out 0 eaten 0 lost 0 over 0 kept 1\nevents 3 items 1 refused 0 status 0\n"),
-        ("plain --journal", ONE_QUEUE, 0, "sinks 1\nq 1\n0 5\ntally 1\nq in 1 out 0 eaten 0 lost 0 over 0 kept 1\njournal 3\nput 0 0 0 0 accepted 0 kept 5\nleave 0\nidle 0\nevents 3 items 1 refused 0 status 0\n"),
-        ("plain --journal", "{\"version\":1,\"nodes\":[],\"edges\":[],\"callers\":[],\"sinks\":[]}", 0, "sinks 0\ntally 0\njournal 0\nevents 0 items 0 refused 0 status 0\n"),
-        ("plain --items 0 --journal", ONE_QUEUE, 8, "sinks 1\nq 0\ntally 1\nq in 0 out 0 eaten 0 lost 0 over 0 kept 0\njournal 0\nstopped put 0 0 0 0 accepted 0 kept 5\nevents 0 items 0 refused 0 status 8\n"),
-        ("plain", "{\"version\":1,\"nodes\":[{\"name\":\"a\",\"kind\":\"queue\"},{\"name\":\"b\",\"kind\":\"queue\"}],\"edges\":[{\"from\":\"a\",\"to\":\"b\"}],\"callers\":[[{\"put\":\"a\",\"val\":5}]],\"sinks\":[\"b\"]}", 0, "sinks 1\nb 1\n0 5\ntally 2\na in 1 out 1 eaten 0 lost 0 over 0 kept 0\nb in 1 out 0 eaten 0 lost 0 over 0 kept 1\nevents 5 items 2 refused 0 status 0\n"),
-        ("plain --items 1 --journal", "{\"version\":1,\"nodes\":[{\"name\":\"a\",\"kind\":\"queue\"},{\"name\":\"b\",\"kind\":\"queue\"}],\"edges\":[{\"from\":\"a\",\"to\":\"b\"}],\"callers\":[[{\"put\":\"a\",\"val\":5}]],\"sinks\":[\"b\"]}", 8, "sinks 1\nb 0\ntally 2\na in 1 out 0 eaten 0 lost 0 over 0 kept 1\nb in 0 out 0 eaten 0 lost 0 over 0 kept 0\njournal 2\nput 0 0 0 0 accepted 0 kept 5\nleave 0\nstopped give 0 0 1 0 0 0 kept 0 5\nevents 2 items 1 refused 0 status 8\n"),
-        ("plain --items=2 --journal", "{\"version\":1,\"nodes\":[{\"name\":\"a\",\"kind\":\"queue\"},{\"name\":\"b\",\"kind\":\"queue\"}],\"edges\":[{\"from\":\"a\",\"to\":\"b\"}],\"callers\":[[{\"put\":\"a\",\"val\":5}]],\"sinks\":[\"b\"]}", 0, "sinks 1\nb 1\n0 5\ntally 2\na in 1 out 1 eaten 0 lost 0 over 0 kept 0\nb in 1 out 0 eaten 0 lost 0 over 0 kept 1\njournal 5\nput 0 0 0 0 accepted 0 kept 5\nleave 0\ngive 0 0 1 0 0 0 kept 0 5\nidle 0\nidle 1\nevents 5 items 2 refused 0 status 0\n"),
-        ("plain", "{\"version\":1,\"nodes\":[{\"name\":\"q\",\"kind\":\"queue\"}],\"edges\":[],\"callers\":[[{\"put\":\"q\",\"val\":[[[[[[[[[[[[[[[[[[[[[[[[[[[[[[[[]]]]]]]]]]]]]]]]]]]]]]]]]]]]]]]]}]],\"sinks\":[\"q\"]}", 0, "sinks 1\nq 1\n0 [[[[[[[[[[[[[[[[[[[[[[[[[[[[[[[[]]]]]]]]]]]]]]]]]]]]]]]]]]]]]]]]\ntally 1\nq in 1 out 0 eaten 0 lost 0 over 0 kept 1\nevents 3 items 1 refused 0 status 0\n"),
+        (
+            "plain",
+            ONE_QUEUE,
+            0,
+            "sinks 1\nq 1\n0 5\ntally 1\nq in 1 out 0 eaten 0 lost 0 over 0 kept 1\nevents 3 items 1 refused 0 status 0\n",
+        ),
+        (
+            "plain --journal",
+            ONE_QUEUE,
+            0,
+            "sinks 1\nq 1\n0 5\ntally 1\nq in 1 out 0 eaten 0 lost 0 over 0 kept 1\njournal 3\nput 0 0 0 0 accepted 0 kept 5\nleave 0\nidle 0\nevents 3 items 1 refused 0 status 0\n",
+        ),
+        (
+            "plain --journal",
+            "{\"version\":1,\"nodes\":[],\"edges\":[],\"callers\":[],\"sinks\":[]}",
+            0,
+            "sinks 0\ntally 0\njournal 0\nevents 0 items 0 refused 0 status 0\n",
+        ),
+        (
+            "plain --items 0 --journal",
+            ONE_QUEUE,
+            8,
+            "sinks 1\nq 0\ntally 1\nq in 0 out 0 eaten 0 lost 0 over 0 kept 0\njournal 0\nstopped put 0 0 0 0 accepted 0 kept 5\nevents 0 items 0 refused 0 status 8\n",
+        ),
+        (
+            "plain",
+            "{\"version\":1,\"nodes\":[{\"name\":\"a\",\"kind\":\"queue\"},{\"name\":\"b\",\"kind\":\"queue\"}],\"edges\":[{\"from\":\"a\",\"to\":\"b\"}],\"callers\":[[{\"put\":\"a\",\"val\":5}]],\"sinks\":[\"b\"]}",
+            0,
+            "sinks 1\nb 1\n0 5\ntally 2\na in 1 out 1 eaten 0 lost 0 over 0 kept 0\nb in 1 out 0 eaten 0 lost 0 over 0 kept 1\nevents 5 items 2 refused 0 status 0\n",
+        ),
+        (
+            "plain --items 1 --journal",
+            "{\"version\":1,\"nodes\":[{\"name\":\"a\",\"kind\":\"queue\"},{\"name\":\"b\",\"kind\":\"queue\"}],\"edges\":[{\"from\":\"a\",\"to\":\"b\"}],\"callers\":[[{\"put\":\"a\",\"val\":5}]],\"sinks\":[\"b\"]}",
+            8,
+            "sinks 1\nb 0\ntally 2\na in 1 out 0 eaten 0 lost 0 over 0 kept 1\nb in 0 out 0 eaten 0 lost 0 over 0 kept 0\njournal 2\nput 0 0 0 0 accepted 0 kept 5\nleave 0\nstopped give 0 0 1 0 0 0 kept 0 5\nevents 2 items 1 refused 0 status 8\n",
+        ),
+        (
+            "plain --items=2 --journal",
+            "{\"version\":1,\"nodes\":[{\"name\":\"a\",\"kind\":\"queue\"},{\"name\":\"b\",\"kind\":\"queue\"}],\"edges\":[{\"from\":\"a\",\"to\":\"b\"}],\"callers\":[[{\"put\":\"a\",\"val\":5}]],\"sinks\":[\"b\"]}",
+            0,
+            "sinks 1\nb 1\n0 5\ntally 2\na in 1 out 1 eaten 0 lost 0 over 0 kept 0\nb in 1 out 0 eaten 0 lost 0 over 0 kept 1\njournal 5\nput 0 0 0 0 accepted 0 kept 5\nleave 0\ngive 0 0 1 0 0 0 kept 0 5\nidle 0\nidle 1\nevents 5 items 2 refused 0 status 0\n",
+        ),
+        (
+            "plain",
+            "{\"version\":1,\"nodes\":[{\"name\":\"q\",\"kind\":\"queue\"}],\"edges\":[],\"callers\":[[{\"put\":\"q\",\"val\":[[[[[[[[[[[[[[[[[[[[[[[[[[[[[[[[]]]]]]]]]]]]]]]]]]]]]]]]]]]]]]]]}]],\"sinks\":[\"q\"]}",
+            0,
+            "sinks 1\nq 1\n0 [[[[[[[[[[[[[[[[[[[[[[[[[[[[[[[[]]]]]]]]]]]]]]]]]]]]]]]]]]]]]]]]\ntally 1\nq in 1 out 0 eaten 0 lost 0 over 0 kept 1\nevents 3 items 1 refused 0 status 0\n",
+        ),
     ];
     for (line, input, code, output) in rows {
         expect(&rt, rt.alloc(), line, input, code, output)?;
@@ -86,18 +131,58 @@ fn reports(rt: HostRuntime) -> Result<(), Fail> {
 fn documents_that_are_refused(rt: HostRuntime) -> Result<(), Fail> {
     let rows = [
         ("", 5, "error 5 syntax\n"),
-        ("{\"version\":1,\"nodes\":[{\"name\":\"q", 5, "error 5 syntax\n"),
-        ("[[[[[[[[[[[[[[[[[[[[[[[[[[[[[[[[[[[[[[[[[[[[[[[[[[[[[[[[[[[[[[[[[[[[[[[[[[[[[[[[[[[[[[[[[[[[[[[[[[[[[[[[[[[[[[[[[[[[[[[[[[[[[[[[]]]]]]]]]]]]]]]]]]]]]]]]]]]]]]]]]]]]]]]]]]]]]]]]]]]]]]]]]]]]]]]]]]]]]]]]]]]]]]]]]]]]]]]]]]]]]]]]]]]]]]]]]]]]]]]]]]]]]]]]]]]]]]]]", 5, "error 5 syntax\n"),
-        ("[[[[[[[[[[[[[[[[[[[[[[[[[[[[[[[[[[[[[[[[[[[[[[[[[[[[[[[[[[[[[[[[[[[[[[[[[[[[[[[[[[[[[[[[[[[[[[[[[[[[[[[[[[[[[[[[[[[[[[[[[[[[[[[]]]]]]]]]]]]]]]]]]]]]]]]]]]]]]]]]]]]]]]]]]]]]]]]]]]]]]]]]]]]]]]]]]]]]]]]]]]]]]]]]]]]]]]]]]]]]]]]]]]]]]]]]]]]]]]]]]]]]]]]]]]]]]]", 6, "error 6 . object\n"),
-        ("{\"version\":1,\"nodes\":[{\"name\":\"q\",\"kind\":\"queue\"}],\"edges\":[],\"callers\":[[{\"put\":\"q\",\"val\":1.5}]],\"sinks\":[\"q\"]}", 6, "error 6 callers/0/0/val value\n"),
+        (
+            "{\"version\":1,\"nodes\":[{\"name\":\"q",
+            5,
+            "error 5 syntax\n",
+        ),
+        (
+            "[[[[[[[[[[[[[[[[[[[[[[[[[[[[[[[[[[[[[[[[[[[[[[[[[[[[[[[[[[[[[[[[[[[[[[[[[[[[[[[[[[[[[[[[[[[[[[[[[[[[[[[[[[[[[[[[[[[[[[[[[[[[[[[[]]]]]]]]]]]]]]]]]]]]]]]]]]]]]]]]]]]]]]]]]]]]]]]]]]]]]]]]]]]]]]]]]]]]]]]]]]]]]]]]]]]]]]]]]]]]]]]]]]]]]]]]]]]]]]]]]]]]]]]]]]]]]]]]",
+            5,
+            "error 5 syntax\n",
+        ),
+        (
+            "[[[[[[[[[[[[[[[[[[[[[[[[[[[[[[[[[[[[[[[[[[[[[[[[[[[[[[[[[[[[[[[[[[[[[[[[[[[[[[[[[[[[[[[[[[[[[[[[[[[[[[[[[[[[[[[[[[[[[[[[[[[[[[[]]]]]]]]]]]]]]]]]]]]]]]]]]]]]]]]]]]]]]]]]]]]]]]]]]]]]]]]]]]]]]]]]]]]]]]]]]]]]]]]]]]]]]]]]]]]]]]]]]]]]]]]]]]]]]]]]]]]]]]]]]]]]]]",
+            6,
+            "error 6 . object\n",
+        ),
+        (
+            "{\"version\":1,\"nodes\":[{\"name\":\"q\",\"kind\":\"queue\"}],\"edges\":[],\"callers\":[[{\"put\":\"q\",\"val\":1.5}]],\"sinks\":[\"q\"]}",
+            6,
+            "error 6 callers/0/0/val value\n",
+        ),
         ("{\"version\":1}", 6, "error 6 nodes list\n"),
-        ("{\"version\":9,\"nodes\":[{\"name\":\"q\",\"kind\":\"queue\"}],\"edges\":[],\"callers\":[[{\"put\":\"q\",\"val\":5}]],\"sinks\":[\"q\"]}", 6, "error 6 version version\n"),
-        ("{\"version\":1,\"nodes\":[{\"name\":\"q\",\"kind\":\"queue\",\"colour\":1}],\"edges\":[],\"callers\":[[{\"put\":\"q\",\"val\":5}]],\"sinks\":[\"q\"]}", 6, "error 6 nodes/0/colour known\n"),
-        ("{\"version\":1,\"nodes\":[{\"name\":\"q\",\"kind\":\"queue\"},{\"name\":\"q\",\"kind\":\"queue\"}],\"edges\":[],\"callers\":[[{\"put\":\"q\",\"val\":5}]],\"sinks\":[\"q\"]}", 6, "error 6 nodes/1/name new\n"),
+        (
+            "{\"version\":9,\"nodes\":[{\"name\":\"q\",\"kind\":\"queue\"}],\"edges\":[],\"callers\":[[{\"put\":\"q\",\"val\":5}]],\"sinks\":[\"q\"]}",
+            6,
+            "error 6 version version\n",
+        ),
+        (
+            "{\"version\":1,\"nodes\":[{\"name\":\"q\",\"kind\":\"queue\",\"colour\":1}],\"edges\":[],\"callers\":[[{\"put\":\"q\",\"val\":5}]],\"sinks\":[\"q\"]}",
+            6,
+            "error 6 nodes/0/colour known\n",
+        ),
+        (
+            "{\"version\":1,\"nodes\":[{\"name\":\"q\",\"kind\":\"queue\"},{\"name\":\"q\",\"kind\":\"queue\"}],\"edges\":[],\"callers\":[[{\"put\":\"q\",\"val\":5}]],\"sinks\":[\"q\"]}",
+            6,
+            "error 6 nodes/1/name new\n",
+        ),
         ("[]", 6, "error 6 . object\n"),
-        ("{\"version\":1,\"nodes\":[{\"name\":\"q\",\"kind\":\"queue\",\"capacity\":2}],\"edges\":[],\"callers\":[[{\"put\":\"q\",\"val\":1},{\"put\":\"q\",\"tag\":1,\"val\":2},{\"put\":\"q\",\"tag\":2,\"val\":3}]],\"sinks\":[\"q\"]}", 6, "error 6 nodes/0/capacity known\n"),
-        ("{\"version\":1,\"nodes\":[{\"name\":\"q\",\"kind\":\"queue\"}],\"edges\":[{\"from\":\"q\",\"to\":\"q\"}],\"callers\":[],\"sinks\":[]}", 7, "error 7 G9 edge 0\n"),
-        ("{\"version\":1,\"nodes\":[{\"name\":\"a\",\"kind\":\"queue\"},{\"name\":\"b\",\"kind\":\"queue\"}],\"edges\":[{\"from\":\"a\",\"out\":1,\"to\":\"b\"}],\"callers\":[],\"sinks\":[]}", 7, "error 7 G7 edge 0\n"),
+        (
+            "{\"version\":1,\"nodes\":[{\"name\":\"q\",\"kind\":\"queue\",\"capacity\":2}],\"edges\":[],\"callers\":[[{\"put\":\"q\",\"val\":1},{\"put\":\"q\",\"tag\":1,\"val\":2},{\"put\":\"q\",\"tag\":2,\"val\":3}]],\"sinks\":[\"q\"]}",
+            6,
+            "error 6 nodes/0/capacity known\n",
+        ),
+        (
+            "{\"version\":1,\"nodes\":[{\"name\":\"q\",\"kind\":\"queue\"}],\"edges\":[{\"from\":\"q\",\"to\":\"q\"}],\"callers\":[],\"sinks\":[]}",
+            7,
+            "error 7 G9 edge 0\n",
+        ),
+        (
+            "{\"version\":1,\"nodes\":[{\"name\":\"a\",\"kind\":\"queue\"},{\"name\":\"b\",\"kind\":\"queue\"}],\"edges\":[{\"from\":\"a\",\"out\":1,\"to\":\"b\"}],\"callers\":[],\"sinks\":[]}",
+            7,
+            "error 7 G7 edge 0\n",
+        ),
     ];
     for (input, code, output) in rows {
         expect(&rt, rt.alloc(), "plain", input, code, output)?;
