@@ -31,6 +31,7 @@ fn main(rt: HostRuntime) -> ExitCode {
     let mut sink = StdSink {
         inner: rt.stdout(),
         faults: 0,
+        sent: true,
     };
     let mut kept = nothing_kept(alloc);
     let status = match words(&rt) {

@@ -1,20 +1,15 @@
 -- The nodes of a run at its start.
-use Rattle.std.proofs.Common.{◌≡◌, ℕ, suc, ◌+◌, ◌<◌, true, false, Option, Some, None, List, [], ◌∷◌, ◌++◌, length, drop, map, replicate, refl, sym, ap, ◌∙◌, arith, append_assoc}
+use Rattle.std.proofs.Common.{◌≡◌, ℕ, suc, ◌+◌, false, Option, Some, None, List, [], ◌∷◌, ◌++◌, length, drop, map, replicate, refl, sym, ap, ◌∙◌, arith, append_assoc}
 use Rattle.std.specs.Prelude.{slice_get}
 use Rattle.flow_item.specs.Lists.{map_places}
-use Rattle.flow_item.proofs.Places.{slice_get-below}
 use Rattle.flow_shape.specs.declared.Kind.{Kind}
 use Rattle.flow_shape.specs.declared.Kind.TheVariants as K
 use Rattle.flow_shape.specs.declared.Shape.{Shape}
 use Rattle.flow_machine.specs.State.{PlacedNode}
 use Rattle.flow_machine.specs.State.{start_part}
 use Rattle.flow_machine.specs.Wishes.{is_ready}
-use Rattle.std.specs.List.{list_all}
 use Rattle.std.proofs.lemmas.Option.{same_Some}
-use Rattle.flow_shape.specs.Wiring.{at_node, is_some_and}
-use Rattle.flow_node.specs.Built.{is_built}
 use Rattle.flow_node.specs.Readied.{is_waiting, start_of}
-use Rattle.flow_node.proofs.HoldLemmas.{all_at}
 use Rattle.flow_nodes.specs.Rows.{node_at, nodes_of}
 use Rattle.flow_node.proofs.WireLemmas.{drop-at}
 
@@ -55,9 +50,3 @@ start-more shape n v old all is before = by_kind (slice_get shape.nodes n) refl
     by_kind : (o : Option Kind) → slice_get shape.nodes n ≡ o → (old ++ v ∷ []) ++ map_places (node_at shape []) (n + 1) (drop (n + 1) shape.nodes) ≡ all
     by_kind None at = let never : ◌≡◌ {A = Option PlacedNode} None (Some v) = rw at at is in cc
     by_kind (Some k) at = let same : ◌≡◌ {A = Option PlacedNode} (Some (node_at shape [] n k)) (Some v) = rw at at is in nodes-more shape n k v old all at (sym (same_Some _ _ same)) before
-
--- each node of such a graph is of a kind that there is code for
-pub built-at : (shape : Shape) (n : ℕ) → list_all is_built shape.nodes ≡ true → n < length shape.nodes → at_node shape n is_built ≡ true
-built-at shape n built short =
-    let found = slice_get-below shape.nodes n short in
-    ap (is_some_and is_built) found.1 ∙ all_at is_built shape.nodes n found.0 built found.1

@@ -1,7 +1,6 @@
 -- what a node's readers answer
 use Rattle.std.specs.Prelude.{◌≡◌, true, false, Some, None, List, [], ◌∷◌, ◌++◌, map}
 use Rattle.std.proofs.Common.{refl}
-use Rattle.flow_item.specs.declared.item.Item.{Item}
 use Rattle.flow_item.specs.declared.event.Event.{Event}
 use Rattle.flow_item.specs.Values.{lists_compute}
 use Rattle.flow_shape.specs.declared.Shape.{Shape}
@@ -11,7 +10,7 @@ use Rattle.flow_shape.specs.Places.{Place, place_at}
 use Rattle.flow_machine.specs.State.{NodeState, item_of}
 use Rattle.flow_machine.specs.Machine.{is_legal, state_of}
 use Rattle.flow_machine.specs.Readers.{item_of_number, item_at, open_ticket, part_of}
-use Rattle.flow_vectors.specs.Lines.{int, kept, id, edge, put, start, end, form}
+use Rattle.flow_vectors.specs.Lines.{int, kept, id, put, start, end, form}
 
 -- a priority node with three items, an async node with two tickets, a body that runs and one that waits, and a join
 abbrev async : Kind

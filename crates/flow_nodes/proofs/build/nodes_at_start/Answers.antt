@@ -2,7 +2,8 @@ use Rattle.std.proofs.Common.{[], ◌∷◌, ◌<◌, length, map, arith}
 use Rattle.std.proofs.lemmas.List.{map-append}
 use Rattle.flow_nodes.specs.Stepping.{node_of}
 use Rattle.flow_nodes.specs.Rows.{nodes_of}
-use Rattle.flow_nodes.proofs.BuildLemmas.{start-more, built-at}
+use Rattle.flow_node.proofs.HoldLemmas.{built-at}
+use Rattle.flow_nodes.proofs.BuildLemmas.{start-more}
 use Rattle.flow_nodes.proofs.build.nodes_at_start.Goals as goal
 
 pub new-requires-clause-built : goal.new-requires-clause-built

@@ -24,4 +24,5 @@ pub returns-in-Refuse-clause-node : goal.returns-in-Refuse-clause-node
 returns-in-Refuse-clause-node c =
     let allowed = rw (c.in-Refuse.is) at c.requires.allowed in
     let apart = rw (c.in-Refuse.is) at c.requires.apart in
-    rw (c.in-Refuse.is) (c.turn_to_pull.ensures ∙ refuse-after (ap (λ (r : Readied). r.node) c.self-in-Refuse.view_is) c.self-in-Refuse.inside.items.items refl refl c.self-in-Refuse.invariant c.in-Refuse.link c.in-Refuse.item apart refl allowed)
+    let from = rw (c.in-Refuse.is, ← c.self-in-Refuse.view_is) at c.requires.from in
+    rw (c.in-Refuse.is) (c.turn_to_pull.ensures ∙ refuse-after (ap (λ (r : Readied). r.node) c.self-in-Refuse.view_is) c.self-in-Refuse.inside.items.items refl refl c.self-in-Refuse.invariant c.in-Refuse.link c.in-Refuse.item apart from allowed)
