@@ -7,7 +7,7 @@ use Rattle.std.specs.Str.{bytes_eq}
 use Rattle.std.specs.Str.Parse.{IsNumeral, digits_value, without_leading_plus}
 use Rattle.clap.specs.ValueTests.{accepts}
 use Rattle.clap.specs.Values.{Accepts, kind_of}
-use Rattle.clap.specs.Words.{App, HasKind, HasMatchesOf, Kinds, Row, Text, app_of, fault_of, first_of, first_value, found_of, is_simple, is_simple_and_free, matches_of, rows_of}
+use Rattle.clap.specs.Words.{App, HasMatchesOf, Row, Text, app_of, fault_of, first_of, first_value, found_of, is_simple, is_simple_and_free, matches_of, rows_of, takes}
 use Rattle.clap.specs.declared.error.Error.{Error}
 use Rattle.clap.specs.declared.error.kind.ErrorKind.TheVariants.{OutOfMemory}
 use Rattle.clap.specs.declared.builder.value_parser.ValueParser.TheVariants as P
@@ -17,7 +17,8 @@ use Rattle.clap.proofs.ValueTestLemmas.{Accepts-accepts, accepts-Accepts}
 use Rattle.clap.proofs.WalkLemmas.{first_value-rows}
 use Rattle.clap.specs.declared.builder.command.Command.{Command}
 use Rattle.clap.specs.declared.parser.matches.ArgMatches.{ArgMatches}
-use Rattle.flow_cli.specs.Words.{begins_with, is_faultless, is_line_of, is_set, items_in, items_of, options_in, plain_app, plain_options}
+use Rattle.flow_cli.proofs.Faultless.{faultless}
+use Rattle.flow_cli.specs.Words.{begins_with, is_line_of, is_set, items_in, items_of, options_in, plain_app, plain_options}
 
 -- ---- the number of items
 
@@ -63,27 +64,21 @@ pub begins : {X : Type 0} (text : X → Text) (ws : List X) (w : X) (name : Text
 begins text [] w name b e is = cc
 begins text (x ∷ xs) w name b e is = let same : x ≡ w = cc in is ∙ ap (λ y. bytes_eq (text y) name) (sym same)
 
-line-is : (words : List Text) (b : Bool) → begins_with (codes "plain") words ≡ true → is_faultless (fault_of plain_app words) ≡ b → is_line_of plain_app words ≡ b
+line-is : (words : List Text) (b : Bool) → begins_with (codes "plain") words ≡ true → takes plain_app words ≡ b → is_line_of plain_app words ≡ b
 line-is words b named k = rw (named, k) refl
-
-among : (e : Error) (ks : Kinds) → HasKind ks e → (kind_of e ≡ OutOfMemory → ⊥) → is_faultless ks ≡ false
-among e [] (inl h) never = absurd (never h)
-among e [] (inr h) never = absurd h
-among e (k ∷ ks) h never = refl
 
 -- words that clap takes
 pub accepted : (words : List Text) (c : Command) (m : ArgMatches) → begins_with (codes "plain") words ≡ true → app_of c ≡ plain_app → (is_simple_and_free (app_of c) ≡ true → fault_of (app_of c) words ≡ []) → HasMatchesOf (app_of c) words m → Some (options_in (rows_of (found_of m))) ≡ plain_options words
 accepted words c m named same faults matches =
-    let none : fault_of (app_of c) words ≡ [] = faults (ap is_simple_and_free same ∙ is_plain) in
-    let clean : is_faultless (fault_of plain_app words) ≡ true = ap is_faultless (sym (ap (λ (b : App). fault_of b words) same) ∙ none) in
-    let line : is_line_of plain_app words ≡ true = line-is words true named clean in
+    let none : fault_of plain_app words ≡ [] = sym (ap (λ (b : App). fault_of b words) same) ∙ faults (ap is_simple_and_free same ∙ is_plain) in
+    let line : is_line_of plain_app words ≡ true = line-is words true named (faultless words none) in
     let rows : rows_of (found_of m) ≡ matches_of plain_app words = (matches (ap is_simple same ∙ is_matched)).0 ∙ ap (λ (b : App). matches_of b words) same in
     rw line (ap (λ (r : List Row). Some (options_in r)) rows)
 
 -- words that clap refuses
-pub refused : (words : List Text) (c : Command) (e : Error) → begins_with (codes "plain") words ≡ true → app_of c ≡ plain_app → (is_simple_and_free (app_of c) ≡ true → HasKind (fault_of (app_of c) words) e) → (kind_of e ≡ OutOfMemory → ⊥) → None ≡ plain_options words
-refused words c e named same faults never =
-    let unclean : is_faultless (fault_of (app_of c) words) ≡ false = among e (fault_of (app_of c) words) (faults (ap is_simple_and_free same ∙ is_plain)) never in
-    let faulty : is_faultless (fault_of plain_app words) ≡ false = ap (λ (b : App). is_faultless (fault_of b words)) (sym same) ∙ unclean in
-    let line : is_line_of plain_app words ≡ false = line-is words false named faulty in
-    rw line refl
+pub refused : (words : List Text) (c : Command) (e : Error) → begins_with (codes "plain") words ≡ true → app_of c ≡ plain_app → (takes (app_of c) words ≡ true → kind_of e ≡ OutOfMemory) → (kind_of e ≡ OutOfMemory → ⊥) → None ≡ plain_options words
+refused words c e named same passes never = by_taken (takes plain_app words) refl
+  where
+    by_taken : (b : Bool) → takes plain_app words ≡ b → None ≡ plain_options words
+    by_taken true taken = absurd (never (passes (ap (λ (b : App). takes b words) same ∙ taken)))
+    by_taken false taken = rw (line-is words false named taken) refl

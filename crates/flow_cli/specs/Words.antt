@@ -4,7 +4,7 @@ use Rattle.std.specs.Option.{option_map_or}
 use Rattle.std.specs.Str.{bytes_eq}
 use Rattle.std.specs.Str.Parse.{digits_value, without_leading_plus}
 use Rattle.clap.specs.ValueTests.{accepts}
-use Rattle.clap.specs.Words.{App, Kinds, Row, Rule, Text, fault_of, first_of, matches_of, new_app, new_rule, with_rule}
+use Rattle.clap.specs.Words.{App, Row, Rule, Text, first_of, matches_of, new_app, new_rule, takes, with_rule}
 use Rattle.clap.specs.declared.builder.action.ArgAction.TheVariants as A
 use Rattle.clap.specs.declared.builder.value_parser.ValueParser.TheVariants as P
 use Rattle.flow_cli.specs.declared.words.Options.{Options}
@@ -25,13 +25,9 @@ abbrev pub begins_with : Text → List Text → Bool
 begins_with name [] = false
 begins_with name (word ∷ rest) = bytes_eq word name
 
-abbrev pub is_faultless : Kinds → Bool
-is_faultless [] = true
-is_faultless (k ∷ ks) = false
-
--- the first word is the command's name, and clap finds no fault in the words after it
+-- the first word is the command's name, and clap takes the words after it
 abbrev pub is_line_of : App → List Text → Bool
-is_line_of app words = begins_with app.top.name words && is_faultless (fault_of app words)
+is_line_of app words = begins_with app.top.name words && takes app words
 
 -- a flag is set where its value is `true`
 abbrev pub is_set : Text → List Row → Bool
