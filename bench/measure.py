@@ -1,5 +1,5 @@
 #!/usr/bin/env python3
-"""Measures `flow plain` on documents of queues in a row, beside a yardstick that takes the same words.
+"""Measures `flow plain` on rows of queues and functions, beside a yardstick that takes the same words.
 
 Both programs are run in turn, round by round, so that the load of the machine falls on both alike. Every output is
 checked, and a wrong one ends the measure.
@@ -16,36 +16,52 @@ import time
 HERE = os.path.dirname(os.path.abspath(__file__))
 FLOW = os.path.join(HERE, "..", "crates", "flow", "out", "flow")
 
-# name, puts, queues in a row, further words
+# name, puts, queues in a row, functions in a row behind them, further words
 CASES = [
-    ("60,000 puts, 3 queues", 60_000, 3, []),
-    ("600,000 puts, 3 queues", 600_000, 3, ["--items", "2000000"]),
-    ("500 puts, 500 queues", 500, 500, []),
+    ("60,000 puts, 3 queues", 60_000, 3, 0, []),
+    ("600,000 puts, 3 queues", 600_000, 3, 0, ["--items", "2000000"]),
+    ("500 puts, 500 queues", 500, 500, 0, []),
+    ("100,000 puts, a queue and 3 functions", 100_000, 1, 3, []),
 ]
 
+# the bodies of functions in a row, each in turn
+BODIES = [("add", 1), ("mul", 3), ("neg", 0)]
 
-def write_document(path, puts, queues):
-    """One caller puts 0, 1, 2 .. with rising tags into the first of the queues; the last is the sink."""
+
+def nodes_of(queues, functions):
+    for n in range(queues):
+        yield '{"name":"n%d","kind":"queue"}' % n
+    for k in range(functions):
+        yield '{"name":"n%d","kind":"function","policy":"queueing","body":"%s","arg":%d}' % (
+            (queues + k,) + BODIES[k % len(BODIES)])
+
+
+def write_document(path, puts, queues, functions):
+    """One caller puts 0, 1, 2 .. with rising tags into the first queue; the last queue of a row without functions is the sink."""
+    nodes = queues + functions
     with open(path, "w", encoding="ascii") as out:
         out.write('{"version":1,"nodes":[')
-        out.write(",".join('{"name":"q%d","kind":"queue"}' % n for n in range(queues)))
+        out.write(",".join(nodes_of(queues, functions)))
         out.write('],"edges":[')
-        out.write(",".join('{"from":"q%d","to":"q%d"}' % (n, n + 1) for n in range(queues - 1)))
+        out.write(",".join('{"from":"n%d","to":"n%d"}' % (n, n + 1) for n in range(nodes - 1)))
         out.write('],"callers":[[')
         for k in range(puts):
-            out.write('%s{"put":"q0","tag":%d,"val":%d}' % ("," if k else "", k, k))
-        out.write(']],"sinks":["q%d"]}\n' % (queues - 1))
+            out.write('%s{"put":"n0","tag":%d,"val":%d}' % ("," if k else "", k, k))
+        out.write(']],"sinks":[%s]}\n' % ("" if functions else '"n%d"' % (nodes - 1)))
 
 
 class Case:
     """A document with what is known of its run."""
 
-    def __init__(self, folder, name, puts, queues, words):
+    def __init__(self, folder, name, puts, queues, functions, words):
         self.name, self.words = name, words
-        self.path = os.path.join(folder, "%d_%d.json" % (puts, queues))
-        write_document(self.path, puts, queues)
-        self.events = puts * queues + 1 + queues
-        self.last_line = "events %d items %d refused 0 status 0" % (self.events, puts * queues)
+        self.path = os.path.join(folder, "%d_%d_%d.json" % (puts, queues, functions))
+        write_document(self.path, puts, queues, functions)
+        # an item comes to each node once, and a message is one more; a function has a start, an end and the end of the
+        # message's offer for each; at last each node rests and the caller leaves
+        self.events = puts * queues + 4 * puts * functions + queues + functions + 1
+        items = puts * (queues + 2 * functions)
+        self.last_line = "events %d items %d refused 0 status 0" % (self.events, items)
 
 
 class Program:
@@ -123,7 +139,7 @@ def print_ratios(programs, cases):
 
 
 def print_growth(programs, cases):
-    small, large, long_row = cases
+    small, large, long_row = cases[:3]
     print()
     print("| Time per event | " + " | ".join(p.name for p in programs) + " |")
     print("|---|" + "---|" * len(programs))
