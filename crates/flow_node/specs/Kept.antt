@@ -1,7 +1,6 @@
 -- A node in code, as contracts see it: what all kinds have, and its part.
 use Rattle.std.specs.Prelude.{◌≡◌, ℕ, ◌+◌, ◌≤◌, Bool, true, ◌&&◌, nat_lt, List, Option, None, [], length, map, vec_len, vec_capacity}
 use Rattle.std.specs.List.{list_all}
-use Rattle.flow_item.specs.declared.item.Item.{Item}
 use Rattle.flow_shape.specs.declared.Kind.{Kind}
 use Rattle.flow_shape.specs.declared.Kind.TheVariants as K
 use Rattle.flow_shape.specs.declared.Wire.{Wire}
@@ -10,7 +9,7 @@ use Rattle.flow_machine.specs.State as S
 use Rattle.flow_machine.specs.State.{NodeState, PlacedNode}
 use Rattle.flow_cast.specs.Casts.{RoomyCast}
 use Rattle.flow_node.specs.Built.{is_wire_of}
-use Rattle.flow_node.specs.Parts.{QueueView, queue_part, FunctionView, function_kind, function_part, are_roomy}
+use Rattle.flow_node.specs.Parts.{queue_part, function_kind, function_part, are_roomy}
 use Rattle.flow_node.specs.declared.base.Base.{Base}
 use Rattle.flow_node.specs.declared.part.Part.{Part}
 use Rattle.flow_node.specs.declared.part.Part.TheVariants as P
@@ -66,3 +65,10 @@ pub record IsKept (b : Base) (p : Part) : Type 0 where
   pub wires : list_all (is_wire_of (kind_of p)) b.outs.items ≡ true
   pub whole : is_whole b.outs.items p ≡ true
   pub numbers : b.made + length (coming_of p) ≤ 18446744073709551615
+
+-- the part changed so, and no cast has less room than before
+pub record Steps (outs : List Wire) (old new : Part) (part : S.Part) (coming : List RoomyCast) : Type 0 where
+  pub kind : kind_of new ≡ kind_of old
+  pub is : part_of new ≡ part
+  pub casts : coming_of new ≡ coming
+  pub whole : is_whole outs old ≡ true → is_whole outs new ≡ true

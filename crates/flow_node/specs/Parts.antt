@@ -1,18 +1,17 @@
 -- A node's parts in code, as contracts see them.
-use Rattle.std.specs.Prelude.{◌≡◌, ℕ, ◌+◌, ◌-◌, ◌≤◌, Bool, true, not, ◌&&◌, nat_eq, nat_le, nat_lt, Option, None, Some, List, [], ◌∷◌, ◌++◌, length, map, filter, drop}
+use Rattle.std.specs.Prelude.{◌≡◌, ℕ, Bool, true, false, not, ◌&&◌, nat_eq, nat_le, Option, None, List, [], ◌∷◌, ◌++◌, length, map, filter}
 use Rattle.std.specs.List.{list_all}
-use Rattle.std.specs.Prelude.{vec_len, vec_capacity}
 use Rattle.flow_item.specs.declared.val.Val.{Val}
 use Rattle.flow_item.specs.declared.item.Item.{Item}
-use Rattle.flow_item.specs.Lists.{has, is_empty, first, rest, drop_first}
+use Rattle.flow_item.specs.Lists.{is_empty, first, rest, drop_first}
 use Rattle.flow_shape.specs.declared.Kind.{Kind}
 use Rattle.flow_shape.specs.declared.Kind.TheVariants as K
 use Rattle.flow_shape.specs.declared.Wire.{Wire}
-use Rattle.flow_shape.specs.Places.{Place, edge_number}
-use Rattle.flow_machine.specs.State.{Cast, BodyState, Part, store_part, body_part, NodeState, PlacedNode, option_list, cast_give, cast_refuse, casts_of}
+use Rattle.flow_shape.specs.Places.{edge_number}
+use Rattle.flow_machine.specs.State.{Cast, BodyState, Part, store_part, body_part, option_list, cast_give, cast_refuse}
 use Rattle.flow_machine.specs.Offers.{all_in}
 use Rattle.flow_machine.specs.Enabled.{is_numbered}
-use Rattle.flow_machine.specs.After.{queue_up, with_promotion}
+use Rattle.flow_machine.specs.After.{with_promotion}
 use Rattle.flow_cast.specs.Casts.{RoomyCast, is_distinct}
 
 -- ---- a queue
@@ -40,6 +39,9 @@ pub record FunctionView : Type 0 where
 abbrev pub cast_in : RoomyCast → Cast
 cast_in c = c.cast
 
+abbrev pub item_in : RoomyCast → Item
+item_in c = c.cast.item
+
 abbrev pub function_kind : FunctionView → Kind
 function_kind f = K.Function false f.limit f.body f.arg
 
@@ -59,6 +61,12 @@ is_roomy outs c = is_distinct c.cast.met && all_in c.cast.met (edges_over outs c
 
 abbrev pub are_roomy : List Wire → List RoomyCast → Bool
 are_roomy outs cs = list_all (is_roomy outs) cs
+
+-- new is old with casts behind it that have their room
+pub record Adds (outs : List Wire) (old new : List RoomyCast) : Type 0 where
+  pub added : List RoomyCast
+  pub list : new ≡ old ++ added
+  pub roomy : are_roomy outs added ≡ true
 
 -- a function's items after the first ready one started, and after a cancel
 abbrev pub work_after_start : BodyState → BodyState
