@@ -1,6 +1,6 @@
 //! The part of a function that lets items wait.
 
-ghost use Rattle.std.specs.Prelude.{◌≡◌, ◌≤◌, ◌<◌, ◌-◌, ◌+◌, ◌&&◌, not, true, false, Some, None, [], ◌∷◌, ◌++◌, length, map, slice_get, min, nat_eq, drop, OnOk, OnErr, IfOk, IfSome};
+ghost use Rattle.std.specs.Prelude.{◌≡◌, ◌≤◌, ◌<◌, ◌-◌, ◌+◌, ◌&&◌, ◌||◌, not, true, false, Some, None, [], ◌∷◌, ◌++◌, length, map, filter, slice_get, min, nat_eq, drop, OnOk, OnErr, IfOk, IfSome};
 ghost use Rattle.std.specs.List.{list_any, list_all, find};
 ghost use Rattle.std.specs.Option.{option_copied};
 ghost use Rattle.flow_item.specs.Lists.{has, is_empty, first, rest};
@@ -61,7 +61,7 @@ impl Model for FunctionPart {
 
 /// Whether the edge goes out of the port.
 fn is_over(outs: &[Wire], port: u32, edge: u32) -> bool
-    ensures { result ≡ has (edges_over outs.now port) edge }
+    ensures { result ≡ list_any (λ w. nat_eq w.out port && nat_eq w.edge edge) outs.now }
 {
     outs.iter()
         .any(|wire| wire.out == port && wire.edge == edge)
@@ -69,9 +69,25 @@ fn is_over(outs: &[Wire], port: u32, edge: u32) -> bool
 
 /// The number of edges out of the port.
 fn count_over(outs: &[Wire], port: u32) -> usize
-    ensures { result ≡ length (edges_over outs.now port) }
+    ensures { result ≡ length (filter (λ w. nat_eq w.out port) outs.now) }
 {
     outs.iter().filter(|wire| wire.out == port).count()
+}
+
+/// Whether the cast met the edge.
+fn has_met(cast: &Cast, edge: u32) -> bool
+    ensures { result ≡ has cast.now.cast.met edge }
+{
+    !cast.offer(edge)
+}
+
+/// Whether the cast met all edges out of the port.
+fn has_met_over(outs: &[Wire], cast: &Cast, port: u32) -> bool
+    ensures { result
+        ≡ list_all (λ w. not (nat_eq w.out port) || has cast.now.cast.met w.edge) outs.now }
+{
+    outs.iter()
+        .all(|wire| wire.out != port || has_met(cast, wire.edge))
 }
 
 /// Whether the cast may meet the edge: it goes out of its port, and wasn't met.
@@ -86,11 +102,7 @@ fn may_meet(outs: &[Wire], cast: &Cast, edge: u32) -> bool
 fn has_met_all(outs: &[Wire], cast: &Cast) -> bool
     ensures { result ≡ is_met (edges_over outs.now cast.now.cast.port) cast.now.cast }
 {
-    let port = cast.port();
-    !cast.is_held()
-        && outs
-            .iter()
-            .all(|wire| wire.out != port || !cast.offer(wire.edge))
+    !cast.is_held() && has_met_over(outs, cast, cast.port())
 }
 
 /// The cast of a message, as an item of the node, with room for the edges of its port.
@@ -191,8 +203,9 @@ impl FunctionPart {
             ≡ find (is_numbered no) (candidates (place_with base.now (function_kind self.now)) (state_with base.now (function_part self.now)) edge) }
     {
         match self.offer() {
-            Some(cast) if cast.item().id.no == no && may_meet(&base.outs, cast, edge) =>
-                Some(cast.item()),
+            Some(cast) if cast.item().id.no == no && may_meet(&base.outs, cast, edge) => Some(
+                cast.item(),
+            ),
             _ => None,
         }
     }

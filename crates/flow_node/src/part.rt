@@ -22,13 +22,12 @@ ghost use Rattle.flow_node.specs.NodeViews.{present_items, ticket_items, running
 ghost use Rattle.flow_shape.specs.declared.Wire.{Wire};
 ghost use Rattle.flow_item.specs.declared.item.Msg.{Msg};
 ghost use Rattle.flow_node.specs.declared.base.Base.{Base};
-ghost use Rattle.flow_item.specs.declared.event.Ended.{Ended};
 
 use crate::base::Base;
 use crate::function::FunctionPart;
 use crate::queue::QueuePart;
 use crate::way::{Bar, Way};
-use flow_item::{Item, Land, NoMemory, Outs, Val};
+use flow_item::{Ended, Item, Land, NoMemory, Outs, Val};
 use flow_machine::Wish;
 use flow_shape::Kind;
 use std::alloc::Global;
@@ -53,13 +52,11 @@ impl Part {
         match kind {
             Kind::Queue { .. } => Ok(Part::Queue(QueuePart::new(alloc))),
             Kind::Function {
-                limit, body, arg, ..
-            } => Ok(Part::Function(FunctionPart::new(
-                alloc,
-                *limit,
-                *body,
-                arg.copy(alloc)?,
-            ))),
+                limit,
+                body,
+                arg,
+                ..
+            } => Ok(Part::Function(FunctionPart::new(alloc, *limit, *body, arg.copy(alloc)?))),
             _ => unreachable!(),
         }
     }
@@ -81,10 +78,7 @@ impl Part {
             ≡ find (is_numbered no) (candidates (place_of base.now self.now) (state_of base.now self.now) edge) }
     {
         match self {
-            Part::Queue(queue) => match queue.front() {
-                Some(item) if item.id.no == no => Some(item),
-                _ => None,
-            },
+            Part::Queue(queue) => queue.offered(no),
             Part::Function(function) => function.offered(base, edge, no),
         }
     }
@@ -200,13 +194,7 @@ impl Part {
             ≡ offer_wish (place_of base.now self.now) (state_of base.now self.now) base.now.push.items }
     {
         match self {
-            Part::Queue(queue) => match (base.push.first(), queue.front()) {
-                (Some(edge), Some(item)) => Some(Wish::Offer {
-                    edge: *edge,
-                    item: item.id.no,
-                }),
-                _ => None,
-            },
+            Part::Queue(queue) => queue.offer_wish(base),
             Part::Function(function) => function.offer_wish(base),
         }
     }
@@ -356,8 +344,9 @@ impl Part {
     /// The body of a running item ends with the messages of whose casts it is prepared.
     pub(crate) fn end(&mut self, base: &Base, no: u64)
         requires running { list_any (is_numbered no) (running_items (part_of self.old)) ≡ true }
-        ensures { (number : ℕ) → (outs : List Msg) → map cast_in (coming_of self.old) ≡ casts_of base.now.node number outs
-            → Steps base.now.outs.items self.old self.new (part_after_end (place_of base.now self.old) (part_of self.old) no number outs) [] }
+        ensures same { Steps base.now.outs.items self.old self.new (part_of self.new) [] }
+        ensures part { (number : ℕ) → (outs : List Msg) → map cast_in (coming_of self.old) ≡ casts_of base.now.node number outs
+            → part_of self.new ≡ part_after_end (place_of base.now self.old) (part_of self.old) no number outs }
     {
         let _ = base;
         match self {
@@ -366,10 +355,11 @@ impl Part {
         }
     }
 
-    /// The cast on offer is over.
-    pub(crate) fn shut(&mut self)
-        ensures { (outs : List Wire) → (ended : Ended) → Steps outs self.old self.new (part_after_shut (part_of self.old) ended) (coming_of self.old) }
+    /// The cast on offer ends so.
+    pub(crate) fn shut(&mut self, ended: Ended)
+        ensures { (outs : List Wire) → Steps outs self.old self.new (part_after_shut (part_of self.old) ended) (coming_of self.old) }
     {
+        let _ = ended;
         match self {
             Part::Queue(_) => {}
             Part::Function(function) => function.shut(),

@@ -1,13 +1,18 @@
 //! The part of a queue.
 
-ghost use Rattle.std.specs.Prelude.{◌≡◌, ◌≤◌, ◌-◌, ◌+◌, [], ◌∷◌, ◌++◌, length, slice_get, drop, OnOk};
+ghost use Rattle.std.specs.Prelude.{◌≡◌, ◌≤◌, ◌-◌, ◌+◌, [], ◌∷◌, ◌++◌, length, None, slice_get, take, drop, OnOk};
 ghost use Rattle.std.specs.List.{find};
 ghost use Rattle.std.specs.Option.{option_copied, option_map};
 ghost use Rattle.flow_item.specs.Lists.{first};
 ghost use Rattle.flow_machine.specs.Enabled.{is_numbered};
-ghost use Rattle.flow_node.specs.Parts.{QueueView, value_of};
+ghost use Rattle.flow_node.specs.Parts.{QueueView, queue_part, value_of};
+ghost use Rattle.flow_node.specs.Kept.{place_with, state_with};
+ghost use Rattle.flow_machine.specs.Wishes.{offer_wish};
 
+use crate::base::Base;
 use flow_item::{Item, NoMemory, Val};
+use flow_machine::Wish;
+use flow_shape::Kind;
 use std::alloc::Global;
 use std::collections::VecDeque;
 use std::marker::Model;
@@ -58,6 +63,33 @@ impl QueuePart {
         ensures { option_copied result ≡ first self.now.items }
     {
         self.items.front()
+    }
+
+    /// The oldest item, where it has this number.
+    pub(crate) fn offered(&self, no: u64) -> Option<&Item>
+        ensures { option_copied result ≡ find (is_numbered no) (take 1 self.now.items) }
+    {
+        match self.items.front() {
+            Some(item) if item.id.no == no => Some(item),
+            _ => None,
+        }
+    }
+
+    /// The offer of the oldest item over the first edge in push.
+    pub(crate) fn offer_wish(&self, base: &Base) -> Option<Wish>
+        ensures { result
+            ≡ offer_wish (place_with base.now (Kind.Queue None)) (state_with base.now (queue_part self.now)) base.now.push.items }
+    {
+        match self.front() {
+            None => None,
+            Some(item) => match base.push.first() {
+                None => None,
+                Some(edge) => Some(Wish::Offer {
+                    edge: *edge,
+                    item: item.id.no,
+                }),
+            },
+        }
     }
 
     /// How many items there are.
