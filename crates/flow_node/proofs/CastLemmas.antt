@@ -7,7 +7,7 @@ use Rattle.flow_item.proofs.Tests.{and_left, and_right, both_true, or_left}
 use Rattle.flow_item.proofs.Places.{has-without-other}
 use Rattle.flow_shape.specs.declared.Wire.{Wire}
 use Rattle.flow_shape.specs.Places.{edge_number}
-use Rattle.flow_machine.specs.Offers.{all_in, is_met}
+use Rattle.flow_machine.specs.Offers.{all_in}
 use Rattle.flow_cast.specs.Casts.{RoomyCast, is_distinct}
 use Rattle.flow_cast.proofs.Edges.{distinct-append, length-without-has}
 use Rattle.flow_node.specs.Parts.{edges_over, is_roomy, given_over, refused_over}

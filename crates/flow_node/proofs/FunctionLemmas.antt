@@ -1,20 +1,19 @@
 -- A function's part: what it offers, and what its steps leave.
-use Rattle.std.proofs.Common.{◌≡◌, ℕ, zero, suc, ◌+◌, ◌-◌, ◌<◌, ◌≤◌, Bool, true, false, not, ◌&&◌, cond, eqb, Option, Some, None, Result, Ok, Err, OnOk, OnErr, get_or, List, [], ◌∷◌, ◌++◌, length, map, take, drop, refl, sym, ap, ◌∙◌, arith, append_assoc}
+use Rattle.std.proofs.Common.{◌≡◌, ℕ, zero, suc, ◌+◌, ◌<◌, ◌≤◌, Bool, true, false, not, ◌&&◌, Option, Some, None, Result, Ok, Err, OnOk, OnErr, get_or, List, [], ◌∷◌, ◌++◌, length, map, take, drop, refl, sym, ap, ◌∙◌, arith, append_assoc}
 use Rattle.std.specs.Prelude.{slice_get}
 use Rattle.std.proofs.lemmas.List.{append-nil, map-append, length-map}
-use Rattle.std.specs.List.{list_all, list_any, find}
+use Rattle.std.specs.List.{find}
 use Rattle.std.specs.Option.{option_map, option_or}
 use Rattle.flow_item.specs.declared.item.Item.{Item}
 use Rattle.flow_item.specs.declared.item.Msg.{Msg}
 use Rattle.flow_item.specs.declared.event.Ended.{Ended}
-use Rattle.flow_item.specs.Lists.{has, is_empty, first, rest}
+use Rattle.flow_item.specs.Lists.{has, is_empty, first}
 use Rattle.flow_item.proofs.Tests.{and_left, and_right, both_true}
 use Rattle.flow_shape.specs.declared.Wire.{Wire}
 use Rattle.flow_shape.specs.Places.{Place}
-use Rattle.flow_machine.specs.State.{Cast, NodeState, body_part, offer, casts_of, change_first, cast_give, cast_refuse}
+use Rattle.flow_machine.specs.State.{NodeState, body_part, casts_of, change_first, cast_give, cast_refuse}
 use Rattle.flow_machine.specs.Offers.{candidates, cast_candidates, offer_end, end_of_offer, outbox_end, when}
-use Rattle.flow_machine.specs.Enabled.{is_numbered}
-use Rattle.flow_machine.specs.Wishes.{offer_wish, shut_wish}
+use Rattle.flow_machine.specs.Wishes.{offer_wish}
 use Rattle.flow_machine.specs.declared.Wish.{Wish}
 use Rattle.flow_machine.specs.declared.Wish.TheVariants as W
 use Rattle.flow_cast.specs.Casts.{RoomyCast}

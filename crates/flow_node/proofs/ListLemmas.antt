@@ -1,9 +1,9 @@
 -- Lists that are mapped, cut and joined.
-use Rattle.std.proofs.Common.{◌≡◌, ℕ, zero, suc, ◌+◌, ◌-◌, ◌<◌, ◌≤◌, Bool, true, false, ◌&&◌, ◌||◌, cond, Option, Some, None, List, [], ◌∷◌, ◌++◌, length, map, take, drop, refl, sym, ap, ◌∙◌, arith}
+use Rattle.std.proofs.Common.{◌≡◌, ℕ, zero, suc, ◌<◌, ◌≤◌, Bool, true, false, cond, Some, None, List, [], ◌∷◌, ◌++◌, length, map, take, drop, refl, ap, arith}
 use Rattle.std.specs.Prelude.{slice_get}
-use Rattle.std.specs.List.{list_all, list_any, find}
+use Rattle.std.specs.List.{list_all, find}
 use Rattle.std.specs.Option.{option_map}
-use Rattle.flow_item.specs.Lists.{first, rest, is_empty}
+use Rattle.flow_item.specs.Lists.{first, rest}
 use Rattle.flow_item.proofs.Tests.{and_left, and_right, both_true}
 use Rattle.flow_machine.specs.State.{change_first}
 

@@ -21,7 +21,6 @@ use Rattle.flow_item.specs.Values.{same_item}
 use Rattle.flow_item.specs.Lists.{has, is_empty, first, drop_first, without}
 use Rattle.flow_item.proofs.Tests.{and_left, and_right}
 use Rattle.flow_item.proofs.Equal.{item-equal}
-use Rattle.flow_shape.specs.declared.Kind.{Kind}
 use Rattle.flow_shape.specs.declared.Kind.TheVariants as K
 use Rattle.flow_shape.specs.declared.Wire.{Wire}
 use Rattle.flow_shape.specs.Kinds.{is_keeping, is_discarding}
@@ -41,7 +40,7 @@ use Rattle.flow_cast.specs.Casts.{RoomyCast}
 use Rattle.flow_node.specs.Built.{is_wire_of, is_reserving, is_plain}
 use Rattle.flow_node.specs.Readied.{stepped, given_from, refused_at, body_ended, landed, runs_bodies}
 use Rattle.flow_node.specs.NodeViews.{running_items}
-use Rattle.flow_node.specs.Kept.{kind_of, part_of, coming_of, is_whole, place_with, state_with, place_of, state_of, placed, IsKept, Steps}
+use Rattle.flow_node.specs.Kept.{kind_of, part_of, coming_of, place_with, state_with, place_of, state_of, placed, IsKept, Steps}
 use Rattle.flow_node.specs.Parts.{cast_in, value_of}
 use Rattle.flow_node.specs.declared.base.Base.{Base}
 use Rattle.flow_node.specs.declared.part.Part.{Part}

@@ -1,5 +1,5 @@
 -- A node's parts in code, as contracts see them.
-use Rattle.std.specs.Prelude.{◌≡◌, ℕ, Bool, true, false, not, ◌&&◌, nat_eq, nat_le, Option, None, List, [], ◌∷◌, ◌++◌, length, map, filter}
+use Rattle.std.specs.Prelude.{◌≡◌, ℕ, Bool, true, false, ◌&&◌, nat_eq, nat_le, Option, None, List, [], ◌++◌, length, map, filter}
 use Rattle.std.specs.List.{list_all}
 use Rattle.flow_item.specs.declared.val.Val.{Val}
 use Rattle.flow_item.specs.declared.item.Item.{Item}

@@ -1,6 +1,5 @@
-use Rattle.std.proofs.Common.{rules, not, eqb, ◌≡◌}
+use Rattle.std.proofs.Common.{rules, not, eqb}
 use Rattle.std.proofs.lemmas.Fn.{filter_same}
-use Rattle.flow_item.specs.Lists.{without}
 use Rattle.flow_node.proofs.base.Base.turn_to_pull.Goals as goal
 
 pub returns-clause-items : goal.returns-clause-items

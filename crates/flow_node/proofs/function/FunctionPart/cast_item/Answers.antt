@@ -1,6 +1,5 @@
-use Rattle.std.proofs.Common.{◌≡◌, true, false, Some, eqb, sym, ap, ◌∙◌, eq-eqb}
+use Rattle.std.proofs.Common.{◌≡◌, true, false, Some, sym, ap, ◌∙◌, eq-eqb}
 use Rattle.std.proofs.lemmas.Bool.{ne_eqb}
-use Rattle.flow_item.specs.declared.item.Item.{Item}
 use Rattle.flow_machine.specs.Enabled.{is_numbered}
 use Rattle.flow_node.proofs.FunctionLemmas.{find-here, find-past}
 use Rattle.flow_node.proofs.function.FunctionPart.cast_item.Goals as goal

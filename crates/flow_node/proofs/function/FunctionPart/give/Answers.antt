@@ -1,4 +1,4 @@
-use Rattle.std.proofs.Common.{◌≡◌, ◌∷◌, take, sym, ap, ◌∙◌}
+use Rattle.std.proofs.Common.{◌≡◌, sym, ap, ◌∙◌}
 use Rattle.flow_item.specs.Lists.{is_empty}
 use Rattle.flow_node.specs.Parts.{FunctionView}
 use Rattle.flow_node.proofs.CastLemmas.{unmet-room}

@@ -1,9 +1,7 @@
-use Rattle.std.proofs.Common.{◌≡◌, true, ◌+◌, ◌≤◌, if◌then◌else◌, [], length, refl, ap, arith, map}
-use Rattle.std.specs.List.{list_any}
+use Rattle.std.proofs.Common.{◌≡◌, true, ◌+◌, ◌≤◌, if◌then◌else◌, [], refl, ap, arith, map}
 use Rattle.flow_machine.specs.State.{casts_of}
-use Rattle.flow_machine.specs.Enabled.{is_numbered, may_end}
+use Rattle.flow_machine.specs.Enabled.{may_end}
 use Rattle.flow_node.specs.Readied.{Readied, runs_bodies}
-use Rattle.flow_node.specs.NodeViews.{running_items}
 use Rattle.flow_node.specs.Parts.{cast_in}
 use Rattle.flow_node.specs.Kept.{kind_of, part_of, coming_of}
 use Rattle.flow_node.proofs.NodeLemmas.{kept-step, ended-after, ends-running, running-runs}

@@ -1,4 +1,4 @@
-use Rattle.std.proofs.Common.{◌≡◌, ◌+◌, map, ap, sym, ◌∙◌, arith}
+use Rattle.std.proofs.Common.{◌≡◌, ◌+◌, map, arith}
 use Rattle.flow_item.proofs.Tests.{and_left}
 use Rattle.flow_machine.specs.OpenParts.{open_bodies, holds_in}
 use Rattle.flow_node.specs.Parts.{cast_in, function_part, are_roomy}
