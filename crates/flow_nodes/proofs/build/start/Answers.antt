@@ -10,8 +10,8 @@ from_parts-requires c =
     let same : c.len.result ≡ length (map node_of c.in_ok-nodes.nodes.items) = omega (arith, length-map c.in_ok-nodes.nodes.items node_of, c.len.ensures, c.in_ok-nodes.nodes.ok.0) in
     c.in_ok-due.ensures ∙ (ap (λ n. replicate n false) same ∙ flags-at-start c.args.shape.now (map node_of c.in_ok-nodes.nodes.items) c.in_ok-nodes.ensures)
 
-pub nodes_at_start-nodes-requires-clause-few : goal.nodes_at_start-nodes-requires-clause-few
-nodes_at_start-nodes-requires-clause-few c = let few = (valid-few c.args.shape.now c.requires.valid).nodes in omega (arith, few)
+pub nodes_at_start-requires-clause-few : goal.nodes_at_start-requires-clause-few
+nodes_at_start-requires-clause-few c = let few = (valid-few c.args.shape.now c.requires.valid).nodes in omega (arith, few)
 
-pub nodes_at_start-nodes-requires-clause-edges : goal.nodes_at_start-nodes-requires-clause-edges
-nodes_at_start-nodes-requires-clause-edges c = (valid-few c.args.shape.now c.requires.valid).edges
+pub nodes_at_start-requires-clause-edges : goal.nodes_at_start-requires-clause-edges
+nodes_at_start-requires-clause-edges c = (valid-few c.args.shape.now c.requires.valid).edges
