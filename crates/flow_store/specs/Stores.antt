@@ -28,8 +28,12 @@ pub record RoomyStore : Type 0 where
 -- a kept value and its holds, and the number of holds that need no memory; the edges that it is owed are the node's
 pub record RoomyKeeper : Type 0 where
   pub once : Bool
-  pub state : KeeperState
+  pub value : Option Item
+  pub holds : List Claim
   pub spare : ℕ
+
+abbrev pub keeper_of : RoomyKeeper → KeeperState
+keeper_of v = record { value = v.value; owed = []; holds = v.holds }
 
 -- whether a caller brings the item
 abbrev pub is_by_caller : Way → Bool
