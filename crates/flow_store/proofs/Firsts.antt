@@ -34,5 +34,5 @@ module _ {X : Type 0} where
 
 -- what is said of a value that is there
 pub some-of : {T : Type 0} (o : Option T) (P : Type 0) → IsSome o → OnSome o P → P
-some-of None P h k = elim h [ ]
+some-of None P h k = let never : ⊥ = cc in absurd never
 some-of (Some x) P h k = k

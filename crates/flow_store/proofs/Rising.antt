@@ -1,12 +1,11 @@
 -- Lists that rise by a test: one that has the same members is the same.
-use Rattle.std.proofs.Common.{◌≡◌, ℕ, ◌+◌, ◌<◌, ◌≤◌, Bool, true, false, cond, nat_eq, nat_lt, List, [], ◌∷◌, ◌++◌, refl, sym, ap, ◌∙◌, subst, arith, inl, inr, ◌⊎◌}
-use Rattle.std.proofs.lemmas.Bool.Decides.{nat_tests}
-use Rattle.std.proofs.lemmas.Bool.{ltb-true, lt-ltb, eqb-true, eq-eqb}
+use Rattle.std.proofs.Common.{◌≡◌, ℕ, zero, suc, length, get_or, ◌+◌, ◌<◌, ◌≤◌, Bool, true, false, cond, nat_eq, nat_lt, List, [], ◌∷◌, ◌++◌, refl, sym, ap, ◌∙◌, subst, arith, inl, inr, ◌⊎◌}
+use Rattle.std.proofs.lemmas.Bool.{ltb-true, ltb-false, lt-ltb, eqb-true, eq-eqb}
 use Rattle.std.proofs.lemmas.Bool.Decides.{eqb_tells}
 use Rattle.std.specs.List.{sum_by}
 use Rattle.std.specs.List.Sorted.{IsPermutation}
 use Rattle.std.proofs.lemmas.List.Sums.{sum_by-cons}
-use Rattle.std.proofs.lemmas.List.Sorted.{sum_by-IsPermutation, IsPermutation-keeps, IsPermutation-sym}
+use Rattle.std.proofs.lemmas.List.Sorted.{sum_by-IsPermutation, All-permutation, IsPermutation-sym}
 use Rattle.flow_item.specs.Lists.{drop_first}
 use Rattle.flow_machine.specs.PrintOrder.{insert_by, sorted_by}
 
@@ -46,23 +45,17 @@ module _ {X : Type 0} where
   insert-in test z x [] h = h
   insert-in test z x (y ∷ ys) h = insert-in-by (test y x) z x y ys (insert_by test x ys) (insert-in test z x ys) h
 
-  or-later : {z x : X} {ys zs : List X} → (In z ys → In z zs) → (z ≡ x) ⊎ In z ys → (z ≡ x) ⊎ In z zs
-  or-later f (inl e) = inl e
-  or-later f (inr k) = inr (f k)
+  or-later : (z x : X) (ys zs : List X) → (In z ys → In z zs) → (z ≡ x) ⊎ In z ys → (z ≡ x) ⊎ In z zs
+  or-later z x ys zs f (inl e) = inl e
+  or-later z x ys zs f (inr k) = inr (f k)
 
   pub in-sorted : (test : X → X → Bool) (z : X) (xs : List X) → In z (sorted_by test xs) → In z xs
   in-sorted test z [] h = h
-  in-sorted test z (x ∷ xs) h = or-later (in-sorted test z xs) (in-insert test z x (sorted_by test xs) h)
+  in-sorted test z (x ∷ xs) h = or-later z x (sorted_by test xs) xs (in-sorted test z xs) (in-insert test z x (sorted_by test xs) h)
 
   pub sorted-in : (test : X → X → Bool) (z : X) (xs : List X) → In z xs → In z (sorted_by test xs)
   sorted-in test z [] h = h
-  sorted-in test z (x ∷ xs) h = insert-in test z x (sorted_by test xs) (or-later (sorted-in test z xs) h)
-
-  -- ---- members of permutations
-
-  -- what is said of each member is said of each of the other order
-  In-swapped : X → List X → List X → Type 0
-  In-swapped z xs ys = In z ys → In z xs
+  sorted-in test z (x ∷ xs) h = insert-in test z x (sorted_by test xs) (or-later z x xs (sorted_by test xs) (sorted-in test z xs) h)
 
 -- a strict order
 pub record IsStrict {X : Type 0} (before : X → X → Bool) : Type 0 where
@@ -172,11 +165,13 @@ module _ {X : Type 0} (key : X → ℕ) where
 
   none-marked : (n : ℕ) (xs : List X) → ((z : X) → In z xs → key z ≡ n → ⊥) → sum_by (mark key n) xs ≡ 0
   none-marked n [] h = refl
-  none-marked n (x ∷ xs) h = by_test (eqb_tells (key x) n)
+  none-marked n (x ∷ xs) h = by_test (eqb_tells (key x) n) (none-marked n xs (λ z k. h z (inr k)))
     where
-      by_test : ((nat_eq (key x) n ≡ true) × (key x ≡ n)) ⊎ ((nat_eq (key x) n ≡ false) × (key x ≡ n → ⊥)) → sum_by (mark key n) (x ∷ xs) ≡ 0
-      by_test (inl (b, e)) = absurd (h x (inl refl) e)
-      by_test (inr (b, e)) = sum_by-cons (mark key n) x xs ∙ rw b (none-marked n xs (λ z k. h z (inr k)))
+      by_test : ((nat_eq (key x) n ≡ true) × (key x ≡ n)) ⊎ ((nat_eq (key x) n ≡ false) × (key x ≡ n → ⊥)) → sum_by (mark key n) xs ≡ 0 → sum_by (mark key n) (x ∷ xs) ≡ 0
+      by_test (inl (b, e)) later = absurd (h x (inl refl) e)
+      by_test (inr (b, e)) later =
+          let here : mark key n x ≡ 0 = rw b in
+          omega (arith, sum_by-cons (mark key n) x xs)
 
   -- one more with another number
   pub once-more : (x : X) (xs : List X) → Once key xs → ((z : X) → In z xs → key z ≡ key x → ⊥) → Once key (x ∷ xs)
@@ -195,7 +190,7 @@ module _ {X : Type 0} (key : X → ℕ) where
   apart x z h b = lt-ltb (key x) (key z) (by_order (key x) (key z) h b)
     where
       by_order : (m n : ℕ) → (m ≡ n → ⊥) → nat_lt n m ≡ false → m < n
-      by_order m n h b = omega (arith, nat_tests, h, b)
+      by_order m n h b = let low = ltb-false n m b in omega (arith, h)
 
   -- sorted by the number, they rise
   pub once-rises : (xs : List X) → Once key xs → Rising (by_key key) (sorted_by (by_key key) xs)
@@ -212,3 +207,51 @@ module _ {X : Type 0} (key : X → ℕ) where
       same-members (by_key key) key-strict (sorted_by (by_key key) xs) (sorted_by (by_key key) ys) (once-rises xs h) (once-rises ys k)
           (λ z m. sorted-in (by_key key) z ys (f z (in-sorted (by_key key) z xs m)))
           (λ z m. sorted-in (by_key key) z xs (g z (in-sorted (by_key key) z ys m)))
+
+-- ---- permutations
+
+module _ {X : Type 0} where
+  in-at : (xs : List X) (i : ℕ) (d : X) → i < length xs → In (get_or xs i d) xs
+  in-at [] i d h = absurd (omega (arith, h))
+  in-at (x ∷ xs) zero d h = inl refl
+  in-at (x ∷ xs) (suc i) d h = inr (in-at xs i d (omega arith))
+
+  all-in : (P : X → Type 0) (xs : List X) (z : X) → ((i : ℕ) (d : X) → i < length xs → P (get_or xs i d)) → In z xs → P z
+  all-in P [] z h k = absurd k
+  all-in P (x ∷ xs) z h (inl e) = subst P (sym e) (h 0 x (omega arith))
+  all-in P (x ∷ xs) z h (inr k) = all-in P xs z (λ i d m. h (suc i) d (omega arith)) k
+
+  pub permuted-in : (xs ys : List X) → IsPermutation xs ys → (z : X) → In z ys → In z xs
+  permuted-in xs ys p z h = all-in (λ y. In y xs) ys z (All-permutation (λ y. In y xs) xs ys p (in-at xs)) h
+
+module _ {X : Type 0} (key : X → ℕ) where
+  -- what is sorted doesn't show the order before
+  pub sorted-same : (xs ys : List X) → IsPermutation xs ys → Once key xs → sorted_by (by_key key) xs ≡ sorted_by (by_key key) ys
+  sorted-same xs ys p h =
+      sorted-permutation key xs ys h (permuted-in ys xs (IsPermutation-sym xs ys p)) (permuted-in xs ys p) (once-permutation key xs ys p h)
+
+  -- one more with the greatest number goes last
+  pub sorted-more : (x : X) (xs ys : List X) → IsPermutation (x ∷ xs) ys → Once key xs → ((z : X) → In z xs → nat_lt (key z) (key x) ≡ true)
+      → (Once key ys) × (sorted_by (by_key key) ys ≡ sorted_by (by_key key) xs ++ x ∷ [])
+  sorted-more x xs ys p h new =
+      let one : Once key (x ∷ xs) = once-more key x xs h (λ z k e. let low = ltb-true (key z) (key x) (new z k) in omega arith) in
+      (once-permutation key (x ∷ xs) ys p one,
+       sym (sorted-same (x ∷ xs) ys p one)
+       ∙ insert-last (by_key key) (key-strict key) (by_key key) x (sorted_by (by_key key) xs) (λ z k. new z (in-sorted (by_key key) z xs k)))
+
+  -- one goes
+  pub sorted-less : (x : X) (xs ys : List X) → IsPermutation xs (x ∷ ys) → Once key xs
+      → (Once key ys) × (sorted_by (by_key key) ys ≡ drop_first (λ y. nat_eq (key y) (key x)) (sorted_by (by_key key) xs))
+  sorted-less x xs ys p h =
+      let one : Once key (x ∷ ys) = once-permutation key xs (x ∷ ys) p h in
+      (once-tail key x ys one,
+       sym (drop-insert (by_key key) (λ y. nat_eq (key y) (key x)) x (sorted_by (by_key key) ys) (eq-eqb (key x) (key x) refl)
+                (λ z k. differs (key z) (key x) (λ e. once-differs key x z ys one (in-sorted (by_key key) z ys k) (sym e))))
+       ∙ ap (drop_first (λ y. nat_eq (key y) (key x))) (sym (sorted-same xs (x ∷ ys) p h)))
+    where
+      differs : (m n : ℕ) → (m ≡ n → ⊥) → nat_eq m n ≡ false
+      differs m n f = by_test (eqb_tells m n)
+        where
+          by_test : ((nat_eq m n ≡ true) × (m ≡ n)) ⊎ ((nat_eq m n ≡ false) × (m ≡ n → ⊥)) → nat_eq m n ≡ false
+          by_test (inl (b, e)) = absurd (f e)
+          by_test (inr (b, e)) = b
