@@ -17,11 +17,24 @@ use Rattle.flow_store.specs.declared.store.Way.TheVariants as W
 -- a buffer or a queue: its capacity, its items and lock, and the number of puts that need no memory
 pub record RoomyQueue : Type 0 where
   pub capacity : Option ℕ
-  pub state : StoreState
+  pub items : List Item
+  pub lock : Option Claim
   pub spare : ℕ
 
--- a priority or sequencer node's items, its lock and next tag, and the number of puts that need no memory
-pub record RoomyStore : Type 0 where
+abbrev pub queue_of : RoomyQueue → StoreState
+queue_of v = record { items = v.items; lock = v.lock; next = 0 }
+
+-- a priority node's items and lock, and the number of puts that need no memory
+pub record RoomyRanks : Type 0 where
+  pub items : List Item
+  pub lock : Option Claim
+  pub spare : ℕ
+
+abbrev pub ranks_of : RoomyRanks → StoreState
+ranks_of v = record { items = v.items; lock = v.lock; next = 0 }
+
+-- a sequencer's items, lock and next tag, and the number of puts that need no memory
+pub record RoomyTags : Type 0 where
   pub state : StoreState
   pub spare : ℕ
 

@@ -32,7 +32,8 @@ impl Model for BagStore {
 
     ghost view = { λ s. record {
       capacity = s.capacity;
-      state = record { items = s.items.items; lock = s.lock; next = 0 };
+      items = s.items.items;
+      lock = s.lock;
       spare = deque_capacity s.items - deque_len s.items;
     } };
 
@@ -43,7 +44,7 @@ impl BagStore {
     /// A buffer with no items, which takes at most so many at once. Takes no memory.
     pub fn new(alloc: Global, capacity: Option<u32>) -> BagStore
         ensures { result
-            ≡ record { capacity = capacity; state = record { items = []; lock = None; next = 0 }; spare = result.spare } }
+            ≡ record { capacity = capacity; items = []; lock = None; spare = result.spare } }
     {
         BagStore {
             capacity,
@@ -61,7 +62,7 @@ impl BagStore {
 
     /// The item that is locked, and the edge that it is locked for.
     pub fn lock(&self) -> Option<Claim>
-        ensures { result ≡ self.now.state.lock }
+        ensures { result ≡ self.now.lock }
     {
         self.lock
     }
@@ -70,12 +71,21 @@ impl BagStore {
 impl Store for BagStore {
     ghost use Rattle.flow_shape.specs.declared.Kind.TheVariants as K;
     ghost use Rattle.flow_machine.specs.State.{store_part};
+    ghost use Rattle.flow_store.specs.Stores.{queue_of};
 
     ghost kind = { λ v. K.Buffer v.capacity };
 
-    ghost part = { λ v. store_part v.state };
+    ghost part = { λ v. store_part (queue_of v) };
 
     ghost spare = { λ v. v.spare };
+
+    ghost use Rattle.flow_store.specs.LawsHold.{buffer-puts, store-gives, store-holds};
+
+    ghost puts_one = { λ s. buffer-puts s.capacity (queue_of s) };
+
+    ghost gives_one = { λ s. store-gives (K.Buffer s.capacity) (queue_of s) };
+
+    ghost holds_one = { λ s. store-holds (K.Buffer s.capacity) (queue_of s) };
 
     fn reserve(&mut self, n: usize) -> Result<(), NoMemory> {
         match self.items.reserve(n) {
@@ -132,5 +142,9 @@ impl Store for BagStore {
 
     fn at(&self, k: usize) -> Option<&Item> {
         self.items.get(k)
+    }
+
+    fn arrange(&mut self) -> Result<(), NoMemory> {
+        Ok(())
     }
 }

@@ -29,7 +29,8 @@ impl Model for FifoStore {
 
     ghost view = { λ s. record {
       capacity = s.capacity;
-      state = record { items = s.items.items; lock = s.lock; next = 0 };
+      items = s.items.items;
+      lock = s.lock;
       spare = deque_capacity s.items - deque_len s.items;
     } };
 
@@ -40,7 +41,7 @@ impl FifoStore {
     /// A queue with no items, which takes at most so many at once. Takes no memory.
     pub fn new(alloc: Global, capacity: Option<u32>) -> FifoStore
         ensures { result
-            ≡ record { capacity = capacity; state = record { items = []; lock = None; next = 0 }; spare = result.spare } }
+            ≡ record { capacity = capacity; items = []; lock = None; spare = result.spare } }
     {
         FifoStore {
             capacity,
@@ -58,7 +59,7 @@ impl FifoStore {
 
     /// The item that is locked, and the edge that it is locked for.
     pub fn lock(&self) -> Option<Claim>
-        ensures { result ≡ self.now.state.lock }
+        ensures { result ≡ self.now.lock }
     {
         self.lock
     }
@@ -67,12 +68,21 @@ impl FifoStore {
 impl Store for FifoStore {
     ghost use Rattle.flow_shape.specs.declared.Kind.TheVariants as K;
     ghost use Rattle.flow_machine.specs.State.{store_part};
+    ghost use Rattle.flow_store.specs.Stores.{queue_of};
 
     ghost kind = { λ v. K.Queue v.capacity };
 
-    ghost part = { λ v. store_part v.state };
+    ghost part = { λ v. store_part (queue_of v) };
 
     ghost spare = { λ v. v.spare };
+
+    ghost use Rattle.flow_store.specs.LawsHold.{queue-puts, store-gives, store-holds};
+
+    ghost puts_one = { λ s. queue-puts s.capacity (queue_of s) };
+
+    ghost gives_one = { λ s. store-gives (K.Queue s.capacity) (queue_of s) };
+
+    ghost holds_one = { λ s. store-holds (K.Queue s.capacity) (queue_of s) };
 
     fn reserve(&mut self, n: usize) -> Result<(), NoMemory> {
         match self.items.reserve(n) {
@@ -129,5 +139,9 @@ impl Store for FifoStore {
 
     fn at(&self, k: usize) -> Option<&Item> {
         self.items.get(k)
+    }
+
+    fn arrange(&mut self) -> Result<(), NoMemory> {
+        Ok(())
     }
 }

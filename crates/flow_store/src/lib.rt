@@ -12,3 +12,6 @@ pub use bag::BagStore;
 pub use fifo::FifoStore;
 pub use one::OneStore;
 pub use store::{Store, Way};
+
+#[cfg(test)]
+mod tests;

@@ -83,6 +83,14 @@ impl Store for OneStore {
 
     ghost spare = { λ v. v.spare };
 
+    ghost use Rattle.flow_store.specs.LawsHold.{keeper-puts, keeper-gives, keeper-holds};
+
+    ghost puts_one = { λ s. keeper-puts s };
+
+    ghost gives_one = { λ s. keeper-gives (if s.once then K.WriteOnce else K.Overwrite) (keeper_of s) };
+
+    ghost holds_one = { λ s. keeper-holds (if s.once then K.WriteOnce else K.Overwrite) (keeper_of s) };
+
     fn reserve(&mut self, n: usize) -> Result<(), NoMemory> {
         match self.holds.reserve(n) {
             Ok(()) => Ok(()),
@@ -136,5 +144,9 @@ impl Store for OneStore {
 
     fn at(&self, k: usize) -> Option<&Item> {
         if k == 0 { self.value.as_ref() } else { None }
+    }
+
+    fn arrange(&mut self) -> Result<(), NoMemory> {
+        Ok(())
     }
 }

@@ -101,4 +101,21 @@ pub trait Store: Drop {
     /// The item at place `k` in print order, `None` exactly past the end.
     fn at(&self, k: usize) -> Option<&Item>
         ensures { option_copied result ≡ slice_get (items_in_order (kind self.now) (part self.now)) k };
+
+    /// Brings the items in print order where `at` finds them sooner. What contracts see stays.
+    fn arrange(&mut self) -> Result<(), NoMemory>
+        ensures kind { kind self.new ≡ kind self.old }
+        ensures part { part self.new ≡ part self.old }
+        ensures spare { spare self.old ≤ spare self.new };
+
+    ghost use Rattle.flow_store.specs.Laws.{PutsOne, GivesOne, HoldsOne};
+
+    // a put refuses, or adds one item, or leaves the items where its own is lost
+    ghost puts_one: { (s : Self) → PutsOne (kind s) (part s) };
+
+    // what is given or taken leaves a single-push store alone, and a keeping one keeps it
+    ghost gives_one: { (s : Self) → GivesOne (kind s) (part s) };
+
+    // what is held stays, also once it is freed, and goes to nobody else
+    ghost holds_one: { (s : Self) → HoldsOne (kind s) (part s) };
 }
