@@ -1,0 +1,17 @@
+//! Stores of a node's items: in the order of arrival, of rank or of tag, and one value that is kept.
+#![tactic(auto)]
+
+mod bag;
+mod fifo;
+mod one;
+mod places;
+mod rooms;
+mod store;
+
+pub use bag::BagStore;
+pub use fifo::FifoStore;
+pub use one::OneStore;
+pub use store::{Store, Way};
+
+#[cfg(test)]
+mod tests;
