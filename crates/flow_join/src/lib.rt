@@ -5,3 +5,6 @@ mod parts;
 mod queue;
 
 pub use queue::QueueJoin;
+
+#[cfg(test)]
+mod tests;
