@@ -8,7 +8,7 @@ ghost use Rattle.flow_tally.specs.declared.tallies.Tally.{Tally};
 ghost use Rattle.flow_tally.specs.Tallies.{IsSmall, without_kept};
 
 use super::*;
-use crate::counts::{came_by, eaten_by, lost_by, out_by, over_by};
+use crate::counts::added_by;
 use flow_item::{Cause, Ended, Event, Id, Ids, Item, Land, Link, Outs, PutAnswer, Val};
 use flow_shape::{Edge, Edges, Kind, Kinds, Shape};
 use std::alloc::{AllocError, Global};
@@ -19,11 +19,12 @@ use std::test::Fail;
 fn is_small(tally: &Tally, node: u32, kind: &Kind, e: &Event) -> bool
     ensures { result ≡ true → IsSmall (tally_add node kind.now (without_kept tally.now) e.now) }
 {
-    came_by(node, kind, e) <= u64::MAX - tally.came
-        && out_by(node, kind, e) <= u64::MAX - tally.out
-        && eaten_by(node, kind, e) <= u64::MAX - tally.eaten
-        && lost_by(node, e) <= u64::MAX - tally.lost
-        && over_by(node, e) <= u64::MAX - tally.over
+    let added = added_by(node, kind, e);
+    added.came <= u64::MAX - tally.came
+        && added.out <= u64::MAX - tally.out
+        && added.eaten <= u64::MAX - tally.eaten
+        && added.lost <= u64::MAX - tally.lost
+        && added.over <= u64::MAX - tally.over
 }
 
 /// The ledger's numbers, in the order in which they are printed.

@@ -1,7 +1,7 @@
 use Rattle.std.proofs.Common.{ap, ◌++◌, ◌∙◌}
 use Rattle.json.specs.Print.{print}
 use Rattle.flow_print.proofs.Tokens.{value_alone}
-use Rattle.flow_print.proofs.values.add_value.Goals as goal
+use Rattle.flow_print.proofs.values.add_written.Goals as goal
 
 pub returns : goal.returns
 returns c =
