@@ -7,7 +7,8 @@ use crate::shelf::{Named, Shelf};
 use flow_item::{NoMemory, Text};
 use std::alloc::Global;
 
-/// The built-in bodies, boxed by the caller.
+/// The built-in bodies, boxed by the caller: a function that made boxes of unknown bodies itself could promise nothing
+/// of them.
 #[derive(Drop)]
 pub struct Builtins {
     pub add: Box<dyn Body + Send + Sync>,
@@ -39,7 +40,8 @@ fn put(
     Ok(())
 }
 
-/// The shelf of the built-in bodies, by their names.
+/// The shelf of the built-in bodies in their order, each by its name and with its meaning. The caller boxes each type
+/// as it stands, so that their meanings are known.
 pub fn builtin_shelf(alloc: Global, bodies: Builtins) -> Result<Shelf, NoMemory>
     requires { map (λ b. body_of (pure b) (single b) (out b)) (bodies.add ∷ bodies.mul ∷ bodies.neg ∷ bodies.len ∷ bodies.part ∷ bodies.pair ∷ bodies.echo ∷ bodies.split_even ∷ bodies.count_to ∷ bodies.fail_memory ∷ []) ≡ map (λ b. b.1) builtin_bodies }
     ensures { IfOk result (λ s. map (λ n. named_body n.name (pure n.body) (single n.body) (out n.body)) s.bodies.items ≡ builtin_bodies) }
