@@ -1,7 +1,4 @@
-ghost use Rattle.std.specs.Prelude.{◌≡◌, IfOk, length};
-
-use crate::read_doc;
-use crate::tests::{answer, shelf, words};
+use crate::tests::{answer, read, words};
 use flow_doc::{Offered, QUEUES, WHOLE};
 use std::alloc::{AllocError, Global};
 use std::process::Abort;
@@ -549,13 +546,10 @@ fn cuts_a_long_path(rt: HostRuntime) -> Result<(), Fail> {
 #[test]
 fn bytes_that_are_no_text(rt: HostRuntime) -> Result<(), Fail> {
     let alloc = rt.alloc();
-    let shelf = shelf(alloc)?;
     let strange = [34u8, 255, 34];
     let long = vec![in alloc; 32u8; 67_108_865]?;
     for (bytes, expected) in [(strange.as_slice(), "syntax"), (long.as_slice(), "long")] {
-        let fault = read_doc(alloc, bytes, &shelf, QUEUES)
-            .err()
-            .ok_or("a fault")?;
+        let fault = read(alloc, bytes, QUEUES)?.err().ok_or("a fault")?;
         let words = words(alloc, &fault)?;
         assert_eq!(rt; words.as_str(), expected);
     }
