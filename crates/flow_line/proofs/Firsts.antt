@@ -50,15 +50,13 @@ module _ {E S : Type 0} where
       → (first_kept cs ≡ kept_event c.kept) × (without_first_kept cs ≡ set cs k (without_kept c))
   first_found [] k c at below none some = absurd (omega (arith, below))
   first_found (x ∷ cs) zero c at below none some =
-      let here : is_some x.kept ≡ true = ap (λ (c : Sitting E S). is_some c.kept) (sym at) ∙ some in
-      (
+      let here : is_some x.kept ≡ true = ap (λ (c : Sitting E S). is_some c.kept) (sym at) ∙ some in (
         or_some x.kept (first_kept cs) here ∙ ap (λ (c : Sitting E S). kept_event c.kept) (sym at),
         ap (λ b. if b then without_kept x ∷ cs else x ∷ without_first_kept cs) here ∙ ap (λ (c : Sitting E S). without_kept c ∷ cs) (sym at),
       )
   first_found (x ∷ cs) (suc k) c at below none some =
       let t = or_first x.kept (first_kept (take k cs)) none in
-      let rest = first_found cs k c at (omega (arith, below)) t.1 some in
-      (
+      let rest = first_found cs k c at (omega (arith, below)) t.1 some in (
         or_none x.kept (first_kept cs) t.0 ∙ rest.0,
         ap (λ b. if b then without_kept x ∷ cs else x ∷ without_first_kept cs) t.0 ∙ ap (λ l. x ∷ l) rest.1,
       )
