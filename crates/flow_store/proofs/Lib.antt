@@ -1,2 +1,5 @@
+mod Counting
 mod Firsts
+mod RankSteps
+mod Ranking
 mod Rising

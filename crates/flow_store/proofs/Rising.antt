@@ -1,6 +1,6 @@
 -- Lists that rise by a test: one that has the same members is the same.
-use Rattle.std.proofs.Common.{◌≡◌, ℕ, zero, suc, length, get_or, ◌+◌, ◌<◌, ◌≤◌, Bool, true, false, cond, nat_eq, nat_lt, List, [], ◌∷◌, ◌++◌, refl, sym, ap, ◌∙◌, subst, arith, inl, inr, ◌⊎◌}
-use Rattle.std.proofs.lemmas.Bool.{ltb-true, ltb-false, lt-ltb, eqb-true, eq-eqb}
+use Rattle.std.proofs.Common.{◌≡◌, ℕ, zero, suc, length, get_or, ◌<◌, ◌≤◌, Bool, true, false, cond, nat_eq, nat_lt, List, [], ◌∷◌, ◌++◌, refl, sym, ap, ◌∙◌, subst, arith, inl, inr, ◌⊎◌}
+use Rattle.std.proofs.lemmas.Bool.{ltb-true, ltb-false, lt-ltb, eq-eqb}
 use Rattle.std.proofs.lemmas.Bool.Decides.{eqb_tells}
 use Rattle.std.specs.List.{sum_by}
 use Rattle.std.specs.List.Sorted.{IsPermutation}
@@ -8,18 +8,9 @@ use Rattle.std.proofs.lemmas.List.Sums.{sum_by-cons}
 use Rattle.std.proofs.lemmas.List.Sorted.{sum_by-IsPermutation, All-permutation, IsPermutation-sym}
 use Rattle.flow_item.specs.Lists.{drop_first}
 use Rattle.flow_machine.specs.PrintOrder.{insert_by, sorted_by}
+use Rattle.flow_store.specs.Orders.{In, mark, Once, by_key, Rising}
 
 module _ {X : Type 0} where
-  -- x is a member
-  abbrev pub In : X → List X → Type 0
-  In z [] = ⊥
-  In z (x ∷ xs) = (z ≡ x) ⊎ In z xs
-
-  -- each member is before those after it
-  abbrev pub Rising : (X → X → Bool) → List X → Type 0
-  Rising before [] = Unit {0}
-  Rising before (x ∷ xs) = ((z : X) → In z xs → before x z ≡ true) × Rising before xs
-
   -- ---- members of sorted lists
 
   in-insert-by : (b : Bool) (z x y : X) (ys rest : List X) → (In z rest → (z ≡ x) ⊎ In z ys) → In z (cond b (y ∷ rest) (x ∷ y ∷ ys)) → (z ≡ x) ⊎ In z (y ∷ ys)
@@ -82,8 +73,8 @@ module _ {X : Type 0} (before : X → X → Bool) (o : IsStrict before) where
   same-members (x ∷ xs) (y ∷ ys) rx ry f g =
       let e : x ≡ y = same-heads x y xs ys rx ry (f x (inl refl)) (g y (inl refl)) in
       let later : xs ≡ ys = same-members xs ys rx.1 ry.1
-          (λ z h. in-tail x y z xs ys rx e h (f z (inr h)))
-          (λ z h. in-tail y x z ys xs ry (sym e) h (g z (inr h))) in
+      (λ z h. in-tail x y z xs ys rx e h (f z (inr h)))
+      (λ z h. in-tail y x z ys xs ry (sym e) h (g z (inr h))) in
       ap (λ w. w ∷ xs) e ∙ ap (λ ws. y ∷ ws) later
 
   rising-insert-by : (b : Bool) (test : X → X → Bool) (x y : X) (ys : List X)
@@ -107,7 +98,7 @@ module _ {X : Type 0} (before : X → X → Bool) (o : IsStrict before) where
   rising-insert test x [] low high r = (λ z h. absurd h, tt)
   rising-insert test x (y ∷ ys) low high r =
       rising-insert-by (test y x) test x y ys (low y (inl refl)) (high y (inl refl)) r
-          (rising-insert test x ys (λ z h. low z (inr h)) (λ z h. high z (inr h)) r.1)
+      (rising-insert test x ys (λ z h. low z (inr h)) (λ z h. high z (inr h)) r.1)
 
   -- what is after all others goes last
   pub insert-last : (test : X → X → Bool) (x : X) (ys : List X) → ((z : X) → In z ys → test z x ≡ true) → insert_by test x ys ≡ ys ++ x ∷ []
@@ -127,16 +118,6 @@ module _ {X : Type 0} where
       drop-insert-by (test y x) test p x y ys one (none y (inl refl)) (drop-insert test p x ys one (λ z k. none z (inr k)))
 
 -- ---- lists whose members have different numbers
-
-abbrev pub mark : {X : Type 0} → (X → ℕ) → ℕ → X → ℕ
-mark key n x = cond (nat_eq (key x) n) 1 0
-
--- no number is twice in the list
-abbrev pub Once : {X : Type 0} → (X → ℕ) → List X → Type 0
-Once {X} key xs = (n : ℕ) → sum_by (mark key n) xs ≤ 1
-
-abbrev pub by_key : {X : Type 0} → (X → ℕ) → X → X → Bool
-by_key key x y = nat_lt (key x) (key y)
 
 module _ {X : Type 0} (key : X → ℕ) where
   pub key-strict : IsStrict (by_key key)
@@ -197,16 +178,16 @@ module _ {X : Type 0} (key : X → ℕ) where
   once-rises [] h = tt
   once-rises (x ∷ xs) h =
       rising-insert (by_key key) key-strict (by_key key) x (sorted_by (by_key key) xs)
-          (λ z k b. b)
-          (λ z k b. apart x z (once-differs x z xs h (in-sorted (by_key key) z xs k)) b)
-          (once-rises xs (once-tail x xs h))
+      (λ z k b. b)
+      (λ z k b. apart x z (once-differs x z xs h (in-sorted (by_key key) z xs k)) b)
+      (once-rises xs (once-tail x xs h))
 
   -- the order in which they stood doesn't matter
   pub sorted-permutation : (xs ys : List X) → Once key xs → ((z : X) → In z xs → In z ys) → ((z : X) → In z ys → In z xs) → Once key ys → sorted_by (by_key key) xs ≡ sorted_by (by_key key) ys
   sorted-permutation xs ys h f g k =
       same-members (by_key key) key-strict (sorted_by (by_key key) xs) (sorted_by (by_key key) ys) (once-rises xs h) (once-rises ys k)
-          (λ z m. sorted-in (by_key key) z ys (f z (in-sorted (by_key key) z xs m)))
-          (λ z m. sorted-in (by_key key) z xs (g z (in-sorted (by_key key) z ys m)))
+      (λ z m. sorted-in (by_key key) z ys (f z (in-sorted (by_key key) z xs m)))
+      (λ z m. sorted-in (by_key key) z xs (g z (in-sorted (by_key key) z ys m)))
 
 -- ---- permutations
 
@@ -216,7 +197,7 @@ module _ {X : Type 0} where
   in-at (x ∷ xs) zero d h = inl refl
   in-at (x ∷ xs) (suc i) d h = inr (in-at xs i d (omega arith))
 
-  all-in : (P : X → Type 0) (xs : List X) (z : X) → ((i : ℕ) (d : X) → i < length xs → P (get_or xs i d)) → In z xs → P z
+  pub all-in : (P : X → Type 0) (xs : List X) (z : X) → ((i : ℕ) (d : X) → i < length xs → P (get_or xs i d)) → In z xs → P z
   all-in P [] z h k = absurd k
   all-in P (x ∷ xs) z h (inl e) = subst P (sym e) (h 0 x (omega arith))
   all-in P (x ∷ xs) z h (inr k) = all-in P xs z (λ i d m. h (suc i) d (omega arith)) k
@@ -234,20 +215,22 @@ module _ {X : Type 0} (key : X → ℕ) where
   pub sorted-more : (x : X) (xs ys : List X) → IsPermutation (x ∷ xs) ys → Once key xs → ((z : X) → In z xs → nat_lt (key z) (key x) ≡ true)
       → (Once key ys) × (sorted_by (by_key key) ys ≡ sorted_by (by_key key) xs ++ x ∷ [])
   sorted-more x xs ys p h new =
-      let one : Once key (x ∷ xs) = once-more key x xs h (λ z k e. let low = ltb-true (key z) (key x) (new z k) in omega arith) in
-      (once-permutation key (x ∷ xs) ys p one,
-       sym (sorted-same (x ∷ xs) ys p one)
-       ∙ insert-last (by_key key) (key-strict key) (by_key key) x (sorted_by (by_key key) xs) (λ z k. new z (in-sorted (by_key key) z xs k)))
+      let one : Once key (x ∷ xs) = once-more key x xs h (λ z k e. let low = ltb-true (key z) (key x) (new z k) in omega arith) in (
+        once-permutation key (x ∷ xs) ys p one,
+        sym (sorted-same (x ∷ xs) ys p one)
+            ∙ insert-last (by_key key) (key-strict key) (by_key key) x (sorted_by (by_key key) xs) (λ z k. new z (in-sorted (by_key key) z xs k)),
+      )
 
   -- one goes
   pub sorted-less : (x : X) (xs ys : List X) → IsPermutation xs (x ∷ ys) → Once key xs
       → (Once key ys) × (sorted_by (by_key key) ys ≡ drop_first (λ y. nat_eq (key y) (key x)) (sorted_by (by_key key) xs))
   sorted-less x xs ys p h =
-      let one : Once key (x ∷ ys) = once-permutation key xs (x ∷ ys) p h in
-      (once-tail key x ys one,
-       sym (drop-insert (by_key key) (λ y. nat_eq (key y) (key x)) x (sorted_by (by_key key) ys) (eq-eqb (key x) (key x) refl)
-                (λ z k. differs (key z) (key x) (λ e. once-differs key x z ys one (in-sorted (by_key key) z ys k) (sym e))))
-       ∙ ap (drop_first (λ y. nat_eq (key y) (key x))) (sym (sorted-same xs (x ∷ ys) p h)))
+      let one : Once key (x ∷ ys) = once-permutation key xs (x ∷ ys) p h in (
+        once-tail key x ys one,
+        sym (drop-insert (by_key key) (λ y. nat_eq (key y) (key x)) x (sorted_by (by_key key) ys) (eq-eqb (key x) (key x) refl)
+            (λ z k. differs (key z) (key x) (λ e. once-differs key x z ys one (in-sorted (by_key key) z ys k) (sym e))))
+            ∙ ap (drop_first (λ y. nat_eq (key y) (key x))) (sym (sorted-same xs (x ∷ ys) p h)),
+      )
     where
       differs : (m n : ℕ) → (m ≡ n → ⊥) → nat_eq m n ≡ false
       differs m n f = by_test (eqb_tells m n)

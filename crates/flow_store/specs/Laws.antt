@@ -5,7 +5,7 @@ use Rattle.flow_item.specs.declared.event.Land.{Land}
 use Rattle.flow_item.specs.declared.event.Land.TheVariants as L
 use Rattle.flow_item.specs.Lists.{drop_first}
 use Rattle.flow_shape.specs.declared.Kind.{Kind}
-use Rattle.flow_machine.specs.State.{StoreState, KeeperState, Part, store_part, keeper_part}
+use Rattle.flow_machine.specs.State.{Part, store_part}
 use Rattle.flow_machine.specs.Offers.{lands}
 use Rattle.flow_machine.specs.Enabled.{is_numbered}
 use Rattle.flow_machine.specs.After.{part_after_give, part_after_hold, part_after_take, part_after_free}

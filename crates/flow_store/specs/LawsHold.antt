@@ -7,10 +7,10 @@ use Rattle.flow_item.specs.declared.event.Land.TheVariants as L
 use Rattle.flow_item.specs.declared.event.Cause.TheVariants as C
 use Rattle.flow_shape.specs.declared.Kind.{Kind}
 use Rattle.flow_shape.specs.declared.Kind.TheVariants as K
-use Rattle.flow_machine.specs.State.{StoreState, KeeperState, Part, store_part, keeper_part, option_list}
+use Rattle.flow_machine.specs.State.{StoreState, KeeperState, store_part, keeper_part, option_list}
 use Rattle.flow_machine.specs.declared.Claim.{Claim}
 use Rattle.flow_machine.specs.Readers.{own_items}
-use Rattle.flow_machine.specs.Offers.{Room, lands, bars, room_under, store_room, keeper_room}
+use Rattle.flow_machine.specs.Offers.{lands, bars, room_under}
 use Rattle.flow_store.specs.declared.store.Way.{Way}
 use Rattle.flow_store.specs.Stores.{RoomyKeeper, keeper_of, is_by_caller, room_for, after_put}
 use Rattle.flow_store.specs.Laws.{with_landed, PutsOne, GivesOne, HoldsOne}

@@ -4,13 +4,17 @@
 mod bag;
 mod fifo;
 mod one;
+mod orders;
 mod places;
+mod rank;
+mod ranked;
 mod rooms;
 mod store;
 
 pub use bag::BagStore;
 pub use fifo::FifoStore;
 pub use one::OneStore;
+pub use rank::RankStore;
 pub use store::{Store, Way};
 
 #[cfg(test)]

@@ -1,4 +1,4 @@
-use Rattle.std.proofs.Common.{◌≡◌, ◌<◌, ◌∙◌, arith, deque_len}
+use Rattle.std.proofs.Common.{◌<◌, ◌∙◌, arith, deque_len}
 use Rattle.flow_machine.specs.Enabled.{is_numbered}
 use Rattle.flow_store.proofs.Firsts.{remove-first, some-of}
 use Rattle.flow_store.proofs.places.remove_numbered.Goals as goal
