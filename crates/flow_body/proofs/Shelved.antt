@@ -1,11 +1,6 @@
 -- The built-in bodies, by their names.
 use Rattle.std.proofs.Common.{◌≡◌, ℕ, List, [], ◌∷◌, ◌++◌, map, ap, refl}
-use Rattle.flow_body.specs.Builtin.{Body, builtin_bodies}
-
-abbrev with_names : List (List ℕ) → List Body → List (List ℕ × Body)
-with_names [] bodies = []
-with_names names [] = []
-with_names (name ∷ names) (body ∷ bodies) = (name, body) ∷ with_names names bodies
+use Rattle.flow_body.specs.Builtin.{Body, with_names, builtin_bodies}
 
 pub all_named : (bodies : List Body) → bodies ≡ map (λ b. b.1) builtin_bodies → with_names (map (λ b. b.0) builtin_bodies) bodies ≡ builtin_bodies
 all_named bodies h = ap (with_names (map (λ b. b.0) builtin_bodies)) h

@@ -1,14 +1,13 @@
 // The shelf of all built-in bodies.
 ghost use Rattle.std.specs.Prelude.{◌≡◌, map, IfOk, OnOk, [], ◌∷◌, ◌++◌};
-ghost use Rattle.flow_body.specs.Builtin.{body_of, named_body, builtin_bodies};
+ghost use Rattle.flow_body.specs.Builtin.{body_of, named_body, with_names, builtin_bodies};
 
 use crate::body::Body;
 use crate::shelf::{Named, Shelf};
 use flow_item::{NoMemory, Text};
 use std::alloc::Global;
 
-/// The built-in bodies, boxed by the caller: a function that made boxes of unknown bodies itself could promise nothing
-/// of them.
+/// The built-in bodies, each boxed by the caller in the field of its name.
 #[derive(Drop)]
 pub struct Builtins {
     pub add: Box<dyn Body + Send + Sync>,
@@ -40,11 +39,13 @@ fn put(
     Ok(())
 }
 
-/// The shelf of the built-in bodies in their order, each by its name and with its meaning. The caller boxes each type
-/// as it stands, so that their meanings are known.
+/// The shelf of the built-in bodies in their order, each by its name. Where the boxes have the meanings of the types that
+/// their fields are named for, so has the shelf.
 pub fn builtin_shelf(alloc: Global, bodies: Builtins) -> Result<Shelf, NoMemory>
-    requires { map (λ b. body_of (pure b) (single b) (out b)) (bodies.add ∷ bodies.mul ∷ bodies.neg ∷ bodies.len ∷ bodies.part ∷ bodies.pair ∷ bodies.echo ∷ bodies.split_even ∷ bodies.count_to ∷ bodies.fail_memory ∷ []) ≡ map (λ b. b.1) builtin_bodies }
-    ensures { IfOk result (λ s. map (λ n. named_body n.name (pure n.body) (single n.body) (out n.body)) s.bodies.items ≡ builtin_bodies) }
+    ensures shelved { IfOk result (λ s. map (λ n. named_body n.name (pure n.body) (single n.body) (out n.body)) s.bodies.items
+        ≡ with_names (map (λ b. b.0) builtin_bodies) (map (λ b. body_of (pure b) (single b) (out b)) (bodies.add ∷ bodies.mul ∷ bodies.neg ∷ bodies.len ∷ bodies.part ∷ bodies.pair ∷ bodies.echo ∷ bodies.split_even ∷ bodies.count_to ∷ bodies.fail_memory ∷ []))) }
+    ensures builtin { map (λ b. body_of (pure b) (single b) (out b)) (bodies.add ∷ bodies.mul ∷ bodies.neg ∷ bodies.len ∷ bodies.part ∷ bodies.pair ∷ bodies.echo ∷ bodies.split_even ∷ bodies.count_to ∷ bodies.fail_memory ∷ []) ≡ map (λ b. b.1) builtin_bodies
+        → IfOk result (λ s. map (λ n. named_body n.name (pure n.body) (single n.body) (out n.body)) s.bodies.items ≡ builtin_bodies) }
 {
     let mut all = Vec::new(alloc);
     put(alloc, &mut all, "add", bodies.add)?;
