@@ -5,6 +5,7 @@ use Rattle.std.specs.List.{list_all, list_any}
 use Rattle.std.specs.Str.{bytes_eq}
 use Rattle.serde_json.specs.Data.{Data}
 use Rattle.serde_json.specs.Find.{get, as_object}
+use Rattle.flow_item.specs.declared.val.Val.{Val}
 use Rattle.flow_item.proofs.Tests.{and_left, and_right, both_true}
 use Rattle.flow_shape.specs.declared.Kind.{Kind}
 use Rattle.flow_shape.specs.declared.Kind.TheVariants as K
@@ -24,11 +25,21 @@ use Rattle.flow_doc.specs.declared.StepWord.{StepWord}
 use Rattle.flow_doc.specs.declared.StepWord.TheVariants as P
 use Rattle.flow_doc.specs.declared.DocFault.{DocFault}
 use Rattle.flow_doc.specs.declared.DocFault.TheVariants as D
-use Rattle.flow_doc.specs.declared.TheConstants.{QUEUES}
-use Rattle.flow_doc.specs.Offers.{some_if, offers_kind}
+use Rattle.flow_doc.specs.declared.Offered.{Offered}
+use Rattle.flow_doc.specs.Offers.{some_if, offers_kind, offers_policy}
 use Rattle.flow_doc.specs.Fields.{◌>>=◌, Path, ◌▹◌, ◌at◌, wanted, demand, read_or, needs, may, other_name, unless_other, only, each, word_of, tag_of, whole_of, place_in, is_object, list_in}
-use Rattle.flow_doc.specs.Reading.{value_of, true_of, step_words, first_of, put_at, act_at, bare_step_at, step_of, step_at, known_version, version_of, with_no_more, capacity_at, kind_words, kind_word_of, kind_at, name_in, node_at, nodes_at, edge_at, script_at, sink_at, form_of, form_in, json_of, max_bytes, form_of_bytes, if_valid, document}
+use Rattle.flow_doc.specs.Reading.{value_of, true_of, step_words, first_of, put_at, act_at, bare_step_at, step_of, step_at, known_version, version_of, with_no_more, capacity_at, function, no_arg, policy_words, policy_of, some_whole_of, kind_words, kind_word_of, kind_at, name_in, node_at, nodes_at, edge_at, script_at, sink_at, form_of, form_in, json_of, max_bytes, form_of_bytes, if_valid, document}
 use Rattle.flow_node.specs.Built.{is_built}
+use Rattle.flow_cli.specs.declared.input.TheConstants.{OFFERED}
+
+-- version 1, with queues, and with functions that queue where `functions` says so
+abbrev offers : Bool → Offered
+offers functions = record { version = 1; functions = functions; stores = false; switching = false; limiters = false; reserving = false; active = false }
+
+abbrev is_listed : Bool → Kind → Bool
+is_listed functions (K.Queue None) = true
+is_listed functions (K.Function false limit body arg) = functions
+is_listed functions k = false
 
 -- a value that is read passes the test, and no fault tells that the bytes are too many
 abbrev pub Sound : {X : Type 0} → (X → Bool) → Result X DocFault → Type 0
@@ -69,6 +80,14 @@ any_may path d name want otherwise reads = by_member (get name d)
     by_member : (o : Option Data) → Sound always (read_or (path ▹ name) want otherwise reads o)
     by_member None = refl
     by_member (Some m) = any_wanted (path ▹ name) want (reads m)
+
+may_sound : {X : Type 0} (p : X → Bool) (path : Path) (d : Data) (name : List ℕ) (want : Want) (otherwise : X) (reads : Data → Option X) → p otherwise ≡ true → ((d : Data) (x : X) → reads d ≡ Some x → p x ≡ true) → Sound p (may path d name want otherwise reads)
+unfolding read_or
+may_sound p path d name want otherwise reads base h = by_member (get name d)
+  where
+    by_member : (o : Option Data) → Sound p (read_or (path ▹ name) want otherwise reads o)
+    by_member None = base
+    by_member (Some m) = wanted_sound p (path ▹ name) want (reads m) (λ x e. h m x e)
 
 any_demand : (path : Path) (want : Want) (b : Bool) → Sound always (demand path want b)
 unfolding demand
@@ -150,16 +169,16 @@ module _ (names : List (List ℕ)) (shape : Shape) where
 
 -- ---- the version
 
-version_one : (d : Data) (v : ℕ) → version_of QUEUES d ≡ Some v → nat_le v 1 ≡ true
+version_one : (f : Bool) (d : Data) (v : ℕ) → version_of (offers f) d ≡ Some v → nat_le v 1 ≡ true
 unfolding version_of
-version_one d v h = by_tag (tag_of d) h
+version_one f d v h = by_tag (tag_of d) h
   where
     by_test : (n : ℕ) (a b : Bool) → nat_le n 1 ≡ b → cond (a && b) (Some n) None ≡ Some v → nat_le v 1 ≡ true
     by_test n true true is e = let same : n ≡ v = cc in rw (← same) is
     by_test n true false is e = cc
     by_test n false b is e = cc
 
-    by_tag : (o : Option ℕ) → option_and_then (known_version QUEUES) o ≡ Some v → nat_le v 1 ≡ true
+    by_tag : (o : Option ℕ) → option_and_then (known_version (offers f)) o ≡ Some v → nat_le v 1 ≡ true
     by_tag None e = cc
     by_tag (Some n) e = by_test n (nat_le 1 n) (nat_le n 1) refl e
 
@@ -171,74 +190,99 @@ no_late_words v h k = grind (arith)
 
 -- ---- kinds
 
-abbrev is_queue : NodeWord → Bool
-is_queue N.Queue = true
-is_queue word = false
+abbrev is_listed_word : Bool → NodeWord → Bool
+is_listed_word f N.Queue = true
+is_listed_word f N.Function = f
+is_listed_word f word = false
 
-offers_queues : (v : ℕ) → nat_le v 1 ≡ true → (word : NodeWord) → offers_kind QUEUES v word ≡ true → is_queue word ≡ true
-offers_queues v h N.Queue e = refl
-offers_queues v h N.Continue e = absurd (no_late_words v h e)
-offers_queues v h N.Broadcast e = absurd (no_late_words v h e)
-offers_queues v h N.Split e = absurd (no_late_words v h e)
-offers_queues v h word e = cc
+offers_listed : (f : Bool) (v : ℕ) → nat_le v 1 ≡ true → (word : NodeWord) → offers_kind (offers f) v word ≡ true → is_listed_word f word ≡ true
+offers_listed f v h N.Queue e = refl
+offers_listed f v h N.Function e = e
+offers_listed f v h N.Continue e = absurd (no_late_words v h e)
+offers_listed f v h N.Broadcast e = absurd (no_late_words v h e)
+offers_listed f v h N.Split e = absurd (no_late_words v h e)
+offers_listed f v h word e = cc
 
-word_is_queue : (v : ℕ) → nat_le v 1 ≡ true → (d : Data) (word : NodeWord) → kind_word_of QUEUES v d ≡ Some word → is_queue word ≡ true
-word_is_queue v h d word e = by_word (word_of kind_words d) e
+word_is_listed : (f : Bool) (v : ℕ) → nat_le v 1 ≡ true → (d : Data) (word : NodeWord) → kind_word_of (offers f) v d ≡ Some word → is_listed_word f word ≡ true
+word_is_listed f v h d word e = by_word (word_of kind_words d) e
   where
-    by_test : (w : NodeWord) (b : Bool) → offers_kind QUEUES v w ≡ b → cond b (Some w) None ≡ Some word → is_queue word ≡ true
-    by_test w true is e = let same : w ≡ word = cc in rw (← same) (offers_queues v h w is)
+    by_test : (w : NodeWord) (b : Bool) → offers_kind (offers f) v w ≡ b → cond b (Some w) None ≡ Some word → is_listed_word f word ≡ true
+    by_test w true is e = let same : w ≡ word = cc in rw (← same) (offers_listed f v h w is)
     by_test w false is e = cc
 
-    by_word : (o : Option NodeWord) → option_and_then (some_if (offers_kind QUEUES v)) o ≡ Some word → is_queue word ≡ true
+    by_word : (o : Option NodeWord) → option_and_then (some_if (offers_kind (offers f) v)) o ≡ Some word → is_listed_word f word ≡ true
     by_word None e = cc
-    by_word (Some w) e = by_test w (offers_kind QUEUES v w) refl e
+    by_word (Some w) e = by_test w (offers_kind (offers f) v w) refl e
 
 no_capacity : (v : ℕ) → nat_le v 1 ≡ true → (path : Path) (d : Data) → Sound is_none (capacity_at v path d)
 unfolding capacity_at
 no_capacity v h path d = rw (early v h) (after always is_none (only path (codes "name" ∷ codes "kind" ∷ []) d) (λ u. Ok None) (any_only path (codes "name" ∷ codes "kind" ∷ []) d) (λ u e. refl))
 
-queue_is_built : (c : Option ℕ) → is_none c ≡ true → is_built (K.Queue c) ≡ true
-queue_is_built None e = refl
-queue_is_built (Some n) e = cc
+queue_is_listed : (f : Bool) (c : Option ℕ) → is_none c ≡ true → is_listed f (K.Queue c) ≡ true
+queue_is_listed f None e = refl
+queue_is_listed f (Some n) e = cc
 
-kind_built : (v : ℕ) → nat_le v 1 ≡ true → (path : Path) (d : Data) (word : NodeWord) → is_queue word ≡ true → Sound is_built (kind_at QUEUES v [] word path d)
+queues_alone : (f : Bool) (d : Data) (reject : Bool) → policy_of (offers f) d ≡ Some reject → not reject ≡ true
+queues_alone f d reject e = by_word (word_of policy_words d) e
+  where
+    by_word : (o : Option Bool) → option_and_then (some_if (offers_policy (offers f))) o ≡ Some reject → not reject ≡ true
+    by_word None e = cc
+    by_word (Some true) e = cc
+    by_word (Some false) e = let same : false ≡ reject = cc in rw (← same) refl
+
+function_is_listed : (f reject : Bool) (limit : Option ℕ) (body : ℕ) (arg : Val) → not reject ≡ true → f ≡ true → is_listed f (K.Function reject limit body arg) ≡ true
+function_is_listed f false limit body arg r q = q
+function_is_listed f true limit body arg r q = cc
+
+function_listed : (f : Bool) → f ≡ true → (shelf : List (List ℕ)) (path : Path) (d : Data) → Sound (is_listed f) (function (offers f) shelf path d)
+unfolding function
+function_listed f q shelf path d =
+    after not _ _ _ (may_sound not path d (codes "policy") W.Policy false (policy_of (offers f)) refl (queues_alone f)) (λ reject r.
+    after always _ _ _ (any_may path d (codes "limit") W.Whole None some_whole_of) (λ limit u.
+    after always _ _ _ (any_needs path d (codes "body") W.Body (place_in shelf)) (λ body u.
+    after always _ _ _ (any_may path d (codes "arg") W.Value no_arg value_of) (λ arg u.
+    after always _ _ _ (any_only path (codes "name" ∷ codes "kind" ∷ codes "policy" ∷ codes "limit" ∷ codes "body" ∷ codes "arg" ∷ []) d) (λ o u.
+    function_is_listed f reject limit body arg r q)))))
+
+kind_listed : (f : Bool) (shelf : List (List ℕ)) (v : ℕ) → nat_le v 1 ≡ true → (path : Path) (d : Data) (word : NodeWord) → is_listed_word f word ≡ true → Sound (is_listed f) (kind_at (offers f) v shelf word path d)
 unfolding kind_at
-kind_built v h path d N.Queue q = after is_none is_built (capacity_at v path d) (λ c. Ok (K.Queue c)) (no_capacity v h path d) (λ c none. queue_is_built c none)
-kind_built v h path d word q = let never : ⊥ = cc in absurd never
+kind_listed f shelf v h path d N.Queue q = after is_none (is_listed f) (capacity_at v path d) (λ c. Ok (K.Queue c)) (no_capacity v h path d) (λ c none. queue_is_listed f c none)
+kind_listed f shelf v h path d N.Function q = function_listed f q shelf path d
+kind_listed f shelf v h path d word q = let never : ⊥ = cc in absurd never
 
 -- ---- nodes
 
-node_built : (v : ℕ) → nat_le v 1 ≡ true → (earlier : List (List ℕ)) (path : Path) (d : Data) → Sound (λ node. is_built node.1) (node_at QUEUES v [] earlier path d)
+node_listed : (f : Bool) (shelf : List (List ℕ)) (v : ℕ) → nat_le v 1 ≡ true → (earlier : List (List ℕ)) (path : Path) (d : Data) → Sound (λ node. is_listed f node.1) (node_at (offers f) v shelf earlier path d)
 unfolding node_at
-node_built v h earlier path d =
+node_listed f shelf v h earlier path d =
     after always _ _ _ (any_demand path W.Object (is_object d)) (λ o u.
     after always _ _ _ (any_needs path d (codes "name") W.Name name_in) (λ name u.
     after always _ _ _ (any_demand (path ▹ codes "name") W.New (not (list_any (bytes_eq name) earlier))) (λ n u.
-    after is_queue _ _ _ (needs_sound is_queue path d (codes "kind") W.Kind (kind_word_of QUEUES v) (word_is_queue v h)) (λ word q.
-    after is_built _ _ _ (kind_built v h path d word q) (λ kind good. good)))))
+    after (is_listed_word f) _ _ _ (needs_sound (is_listed_word f) path d (codes "kind") W.Kind (kind_word_of (offers f) v) (word_is_listed f v h)) (λ word q.
+    after (is_listed f) _ _ _ (kind_listed f shelf v h path d word q) (λ kind good. good)))))
 
-all_end : (ks : List Kind) (k : Kind) → list_all is_built ks ≡ true → is_built k ≡ true → list_all is_built (ks ++ k ∷ []) ≡ true
-all_end [] k h e = both_true e refl
-all_end (x ∷ ks) k h e = both_true (and_left _ _ h) (all_end ks k (and_right _ _ h) e)
+all_end : (p : Kind → Bool) (ks : List Kind) (k : Kind) → list_all p ks ≡ true → p k ≡ true → list_all p (ks ++ k ∷ []) ≡ true
+all_end p [] k h e = both_true e refl
+all_end p (x ∷ ks) k h e = both_true (and_left _ _ h) (all_end p ks k (and_right _ _ h) e)
 
-nodes_built : (v : ℕ) → nat_le v 1 ≡ true → (path : Path) (names : List (List ℕ)) (kinds : List Kind) (ds : List Data) → list_all is_built kinds ≡ true → Sound (λ r. list_all is_built r.1) (nodes_at QUEUES v [] path names kinds ds)
+nodes_listed : (f : Bool) (shelf : List (List ℕ)) (v : ℕ) → nat_le v 1 ≡ true → (path : Path) (names : List (List ℕ)) (kinds : List Kind) (ds : List Data) → list_all (is_listed f) kinds ≡ true → Sound (λ r. list_all (is_listed f) r.1) (nodes_at (offers f) v shelf path names kinds ds)
 unfolding nodes_at
-nodes_built v h path names kinds [] all = all
-nodes_built v h path names kinds (d ∷ ds) all =
-    after (λ node. is_built node.1) _ _ _ (node_built v h names (path at length names) d) (λ node good. nodes_built v h path (names ++ node.0 ∷ []) (kinds ++ node.1 ∷ []) ds (all_end kinds node.1 all good))
+nodes_listed f shelf v h path names kinds [] all = all
+nodes_listed f shelf v h path names kinds (d ∷ ds) all =
+    after (λ node. is_listed f node.1) _ _ _ (node_listed f shelf v h names (path at length names) d) (λ node good. nodes_listed f shelf v h path (names ++ node.0 ∷ []) (kinds ++ node.1 ∷ []) ds (all_end (is_listed f) kinds node.1 all good))
 
 -- ---- documents
 
-abbrev pub is_ready : Doc → Bool
-is_ready doc = list_all is_built doc.shape.nodes && nat_le doc.version 1
+abbrev is_ready : Bool → Doc → Bool
+is_ready f doc = list_all (is_listed f) doc.shape.nodes && nat_le doc.version 1
 
-form_ready : (d : Data) → Sound is_ready (form_of QUEUES [] d)
+form_ready : (f : Bool) (shelf : List (List ℕ)) (d : Data) → Sound (is_ready f) (form_of (offers f) shelf d)
 unfolding form_of
-form_ready d =
+form_ready f shelf d =
     after always _ _ _ (any_demand [] W.Object (is_object d)) (λ o u.
-    after (λ v. nat_le v 1) _ _ _ (needs_sound (λ v. nat_le v 1) [] d (codes "version") W.Version (version_of QUEUES) version_one) (λ version low.
+    after (λ v. nat_le v 1) _ _ _ (needs_sound (λ v. nat_le v 1) [] d (codes "version") W.Version (version_of (offers f)) (version_one f)) (λ version low.
     after always _ _ _ (any_needs [] d (codes "nodes") W.List list_in) (λ node_items u.
-    after (λ r. list_all is_built r.1) _ _ _ (nodes_built version low ([] ▹ codes "nodes") [] [] node_items refl) (λ nodes built.
+    after (λ r. list_all (is_listed f) r.1) _ _ _ (nodes_listed f shelf version low ([] ▹ codes "nodes") [] [] node_items refl) (λ nodes built.
     after always _ _ _ (any_needs [] d (codes "edges") W.List list_in) (λ edge_items u.
     after always _ _ _ (any_each (edge_at nodes.0) (any_edge nodes.0) ([] ▹ codes "edges") [] edge_items) (λ edges u.
     after always _ _ _ (any_needs [] d (codes "callers") W.List list_in) (λ callers u.
@@ -249,43 +293,59 @@ form_ready d =
     after always _ _ _ (any_only [] (codes "version" ∷ codes "nodes" ∷ codes "edges" ∷ codes "callers" ∷ codes "sinks" ∷ []) d) (λ o u.
     both_true built low))))))))))))
 
-data_ready : (o : Option Data) → Sound is_ready (form_in QUEUES [] o)
-data_ready None = tt
-data_ready (Some d) = form_ready d
+data_ready : (f : Bool) (shelf : List (List ℕ)) (o : Option Data) → Sound (is_ready f) (form_in (offers f) shelf o)
+data_ready f shelf None = tt
+data_ready f shelf (Some d) = form_ready f shelf d
 
-if_ready : (form : Doc) (o : Option ShapeFault) → is_ready form ≡ true → Sound is_ready (if_valid form o)
-if_ready form None ready = ready
-if_ready form (Some fault) ready = tt
+if_ready : (f : Bool) (form : Doc) (o : Option ShapeFault) → is_ready f form ≡ true → Sound (is_ready f) (if_valid form o)
+if_ready f form None ready = ready
+if_ready f form (Some fault) ready = tt
 
 -- unless the bytes are too many
-read_sound : (bytes : List ℕ) → nat_lt max_bytes (length bytes) ≡ false → Sound is_ready (document QUEUES [] bytes)
+read_sound : (f : Bool) (shelf : List (List ℕ)) (bytes : List ℕ) → nat_lt max_bytes (length bytes) ≡ false → Sound (is_ready f) (document (offers f) shelf bytes)
 unfolding document form_of_bytes
-read_sound bytes short = rw short (after is_ready is_ready (form_in QUEUES [] (json_of bytes)) (λ form. if_valid form (first_fault form.shape)) (data_ready (json_of bytes)) (λ form ready. if_ready form (first_fault form.shape) ready))
+read_sound f shelf bytes short = rw short (after (is_ready f) (is_ready f) (form_in (offers f) shelf (json_of bytes)) (λ form. if_valid form (first_fault form.shape)) (data_ready f shelf (json_of bytes)) (λ form ready. if_ready f form (first_fault form.shape) ready))
 
 -- bytes that are too many are no document
-pub too_long : (bytes : List ℕ) → nat_lt max_bytes (length bytes) ≡ true → document QUEUES [] bytes ≡ Err D.TooLong
+pub too_long : (shelf : List (List ℕ)) (bytes : List ℕ) → nat_lt max_bytes (length bytes) ≡ true → document OFFERED shelf bytes ≡ Err D.TooLong
 unfolding document form_of_bytes
-too_long bytes h = rw h refl
+too_long shelf bytes h = rw h refl
 
-read_ready : (bytes : List ℕ) (doc : Doc) → document QUEUES [] bytes ≡ Ok doc → is_ready doc ≡ true
-read_ready bytes doc h = by_length (nat_lt max_bytes (length bytes)) refl
+offered_sound : (shelf : List (List ℕ)) (bytes : List ℕ) → nat_lt max_bytes (length bytes) ≡ false → Sound (is_ready OFFERED.functions) (document OFFERED shelf bytes)
+offered_sound shelf bytes short = read_sound OFFERED.functions shelf bytes short
+
+read_ready : (shelf : List (List ℕ)) (bytes : List ℕ) (doc : Doc) → document OFFERED shelf bytes ≡ Ok doc → is_ready OFFERED.functions doc ≡ true
+read_ready shelf bytes doc h = by_length (nat_lt max_bytes (length bytes)) refl
   where
-    by_length : (b : Bool) → nat_lt max_bytes (length bytes) ≡ b → is_ready doc ≡ true
-    by_length true long = let never : Ok doc ≡ Err D.TooLong = sym h ∙ too_long bytes long in cc
-    by_length false short = subst (Sound is_ready) h (read_sound bytes short)
+    by_length : (b : Bool) → nat_lt max_bytes (length bytes) ≡ b → is_ready OFFERED.functions doc ≡ true
+    by_length true long = let never : Ok doc ≡ Err D.TooLong = sym h ∙ too_long shelf bytes long in cc
+    by_length false short = subst (Sound (is_ready OFFERED.functions)) h (offered_sound shelf bytes short)
 
 -- and only these are refused as too long
-pub never_long : (bytes : List ℕ) → length bytes ≤ 67108864 → document QUEUES [] bytes ≡ Err D.TooLong → ⊥
-never_long bytes low h = subst (Sound is_ready) h (read_sound bytes (not_less (length bytes) low))
+pub never_long : (shelf : List (List ℕ)) (bytes : List ℕ) → length bytes ≤ 67108864 → document OFFERED shelf bytes ≡ Err D.TooLong → ⊥
+never_long shelf bytes low h = subst (Sound (is_ready OFFERED.functions)) h (offered_sound shelf bytes (not_less (length bytes) low))
   where
     not_less : (n : ℕ) → n ≤ 67108864 → nat_lt max_bytes n ≡ false
     not_less n l = grind (arith)
 
-pub read_is_built : (bytes : List ℕ) (doc : Doc) → document QUEUES [] bytes ≡ Ok doc → list_all is_built doc.shape.nodes ≡ true
-read_is_built bytes doc h = and_left _ _ (read_ready bytes doc h)
+-- ---- what is offered has code
+
+kind_is_built : (k : Kind) → is_listed OFFERED.functions k ≡ true → is_built k ≡ true
+kind_is_built (K.Queue None) h = refl
+kind_is_built (K.Queue (Some n)) h = cc
+kind_is_built (K.Function false limit body arg) h = cc
+kind_is_built (K.Function true limit body arg) h = cc
+kind_is_built k h = cc
+
+all_built : (ks : List Kind) → list_all (is_listed OFFERED.functions) ks ≡ true → list_all is_built ks ≡ true
+all_built [] h = refl
+all_built (k ∷ ks) h = both_true (kind_is_built k (and_left _ _ h)) (all_built ks (and_right _ _ h))
+
+pub read_is_built : (shelf : List (List ℕ)) (bytes : List ℕ) (doc : Doc) → document OFFERED shelf bytes ≡ Ok doc → list_all is_built doc.shape.nodes ≡ true
+read_is_built shelf bytes doc h = all_built doc.shape.nodes (and_left _ _ (read_ready shelf bytes doc h))
 
 early_version : (v : ℕ) → nat_le v 1 ≡ true → v < 3
 early_version v h = grind (arith)
 
-pub read_is_early : (bytes : List ℕ) (doc : Doc) → document QUEUES [] bytes ≡ Ok doc → doc.version < 3
-read_is_early bytes doc h = early_version doc.version (and_right _ _ (read_ready bytes doc h))
+pub read_is_early : (shelf : List (List ℕ)) (bytes : List ℕ) (doc : Doc) → document OFFERED shelf bytes ≡ Ok doc → doc.version < 3
+read_is_early shelf bytes doc h = early_version doc.version (and_right _ _ (read_ready shelf bytes doc h))

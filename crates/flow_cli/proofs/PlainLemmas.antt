@@ -5,17 +5,19 @@ use Rattle.std.specs.List.{list_all}
 use Rattle.std.proofs.lemmas.List.{append-nil}
 use Rattle.flow_item.specs.declared.event.Event.{Event}
 use Rattle.flow_item.specs.Events.{births}
-use Rattle.flow_item.proofs.Tests.{and_left}
+use Rattle.flow_item.proofs.Tests.{and_left, and_right, both_true}
+use Rattle.flow_shape.specs.declared.Kind.{Kind}
+use Rattle.flow_shape.specs.declared.Kind.TheVariants as K
 use Rattle.flow_shape.specs.declared.ShapeFault.{ShapeFault}
 use Rattle.flow_shape.specs.Rules.{first_fault, IsValid}
 use Rattle.flow_machine.specs.Machine.{is_legal}
+use Rattle.flow_machine.specs.Bodies.{Meanings}
 use Rattle.flow_node.specs.Built.{is_built}
-use Rattle.flow_doc.specs.Fits.{doc_fits}
+use Rattle.flow_doc.specs.Fits.{doc_fits, kind_fits}
 use Rattle.flow_doc.specs.declared.Doc.{Doc}
 use Rattle.flow_doc.specs.declared.Kept.{Kept}
 use Rattle.flow_doc.specs.declared.DocFault.{DocFault}
 use Rattle.flow_doc.specs.declared.DocFault.TheVariants as D
-use Rattle.flow_doc.specs.declared.TheConstants.{QUEUES}
 use Rattle.flow_doc.specs.Fields.{Fails}
 use Rattle.flow_doc.specs.Reading.{document}
 use Rattle.flow_io.specs.Streams.{Gives, Grows, GrowsByPart, IsAtEnd}
@@ -26,6 +28,7 @@ use Rattle.flow_print.specs.Faults.{words_text, read_text, memory_text, fault_st
 use Rattle.flow_print.specs.Outputs.{Ending, bad_words, unread, no_memory, bad_document, bad_line, output, ending_status, ending_text, IsWritten}
 use Rattle.flow_print.specs.Report.{run_status, run_report, report, MayBePrinted}
 use Rattle.flow_work.specs.Promises.{IsFresh}
+use Rattle.flow_cli.specs.declared.input.TheConstants.{OFFERED}
 use Rattle.flow_cli.specs.declared.words.Options.{Options}
 use Rattle.flow_cli.specs.declared.input.InputFault.{InputFault}
 use Rattle.flow_cli.specs.declared.input.InputFault.TheVariants as I
@@ -40,12 +43,12 @@ length_both (x ∷ xs) ys = let rest = length_both xs ys in omega (arith, rest)
 
 -- ---- what was read
 
-pub reads_fault : (before after : Option (List ℕ)) (fault : DocFault) (bytes : List ℕ) → Gives before bytes after → IsAtEnd after → length bytes ≤ most_read → Fails fault (document QUEUES [] bytes) → Reads before after (Err (I.Bad fault))
-reads_fault before after D.TooLong bytes gives end short h = absurd (never_long bytes short h)
-reads_fault before after D.Syntax bytes gives end short h = record { bytes = bytes; taken = gives; whole = end; short = short; is = h }
-reads_fault before after (D.Place path want) bytes gives end short h = record { bytes = bytes; taken = gives; whole = end; short = short; is = h }
-reads_fault before after (D.Shape fault) bytes gives end short h = record { bytes = bytes; taken = gives; whole = end; short = short; is = h }
-reads_fault before after D.Memory bytes gives end short h = tt
+pub reads_fault : (shelf : List (List ℕ)) (before after : Option (List ℕ)) (fault : DocFault) (bytes : List ℕ) → Gives before bytes after → IsAtEnd after → length bytes ≤ most_read → Fails fault (document OFFERED shelf bytes) → Reads shelf before after (Err (I.Bad fault))
+reads_fault shelf before after D.TooLong bytes gives end short h = absurd (never_long shelf bytes short h)
+reads_fault shelf before after D.Syntax bytes gives end short h = record { bytes = bytes; taken = gives; whole = end; short = short; is = h }
+reads_fault shelf before after (D.Place path want) bytes gives end short h = record { bytes = bytes; taken = gives; whole = end; short = short; is = h }
+reads_fault shelf before after (D.Shape fault) bytes gives end short h = record { bytes = bytes; taken = gives; whole = end; short = short; is = h }
+reads_fault shelf before after D.Memory bytes gives end short h = tt
 
 -- ---- what is said
 
@@ -99,13 +102,32 @@ module _ (options : Options) (kept : Kept) (status : Status) (same : status ≡ 
   pub ended_cut : ((n : ℕ) × (0 < n) × Grows old (take n (report kept status options.journal)) new) → IsEnded (report_ending options kept) S.Memory old new
   ended_cut g = record { last = report_ending options kept; is = inl refl; written = inr (as_run (λ text. (n : ℕ) × (0 < n) × Grows old (take n text) new) g) }
 
+-- the report was cut for want of memory, and what was written was sent on, unless that failed
+pub ended_sent : (options : Options) (kept : Kept) (status : Status) → status ≡ run_status kept.refused → (old mid new : Option (List ℕ)) (result : Status) → ((n : ℕ) × (0 < n) × Grows old (take n (report kept status options.journal)) mid) → new ≡ mid → (result ≡ S.Memory) ⊎ (result ≡ S.Write) → IsEnded (report_ending options kept) result old new
+ended_sent options kept status same old mid new result g stays (inl e) = rw (e, stays) (ended_cut options kept status same old mid g)
+ended_sent options kept status same old mid new result g stays (inr e) = rw (e, stays) (ended_part options kept status same old mid (g.0, g.2))
+
 no_fault : (o : Option ShapeFault) → is_none o ≡ true → o ≡ None
 no_fault None h = refl
 no_fault (Some fault) h = cc
 
+none_fit : (ks : List Kind) → list_all is_built ks ≡ true → list_all (kind_fits 0) ks ≡ true
+none_fit [] h = refl
+none_fit (k ∷ ks) h = both_true (one k (and_left _ _ h)) (none_fit ks (and_right _ _ h))
+  where
+    one : (k : Kind) → is_built k ≡ true → kind_fits 0 k ≡ true
+    one (K.Queue c) h = refl
+    one k h = let never : ⊥ = cc in absurd never
+
+-- a document without bodies can be run with no shelf
+pub fits_none : (n : ℕ) (doc : Doc) → doc_fits n doc ≡ true → list_all is_built doc.shape.nodes ≡ true → doc_fits 0 doc ≡ true
+fits_none n doc fits built =
+    let few = and_left _ _ (and_left _ _ fits) in
+    both_true (both_true (both_true (both_true (and_left _ _ (and_left _ _ few)) (none_fit doc.shape.nodes built)) (and_right _ _ few)) (and_right _ _ (and_left _ _ fits))) (and_right _ _ fits)
+
 -- what a run keeps may be printed
-pub may_print : (options : Options) (doc : Doc) (kept : Kept) → doc_fits 0 doc ≡ true → list_all is_built doc.shape.nodes ≡ true → IsRun options doc kept → MayBePrinted kept.doc kept.journal
-may_print options doc kept fits built run =
+pub may_print : (meanings : Meanings) (bodies : ℕ) (options : Options) (doc : Doc) (kept : Kept) → doc_fits bodies doc ≡ true → list_all is_built doc.shape.nodes ≡ true → IsRun meanings options doc kept → MayBePrinted kept.doc kept.journal
+may_print meanings bodies options doc kept fits built run =
     let valid : IsValid doc.shape = no_fault (first_fault doc.shape) (and_left _ _ (and_left _ _ (and_left _ _ (and_left _ _ (and_left _ _ fits))))) in
     let legal : is_legal doc.shape kept.journal ≡ true = and_left (is_legal doc.shape kept.journal) _ run.legal.legal in
     let few : births kept.journal ≤ 2 ^ 63 = omega (arith, few-births doc.shape kept.journal built legal, run.legal.limits.few) in
@@ -142,13 +164,13 @@ status_of ending status old new h = inr (inr h.0)
 
 -- ---- causes
 
-module _ (asked : Option Options) (before after : Option (List ℕ)) (kept : Kept) where
-  by_run : (doc : Option Doc) (refused : Option Event) (status : Status) → kept.doc ≡ doc → is_some doc ≡ true → kept.refused ≡ refused → status ≡ run_status refused → (status ≡ S.Done → HasDone kept) → IsCaused status asked before after kept
+module _ (shelf : List (List ℕ)) (meanings : Meanings) (asked : Option Options) (before after : Option (List ℕ)) (kept : Kept) where
+  by_run : (doc : Option Doc) (refused : Option Event) (status : Status) → kept.doc ≡ doc → is_some doc ≡ true → kept.refused ≡ refused → status ≡ run_status refused → (status ≡ S.Done → HasDone kept) → IsCaused shelf status asked before after kept
   by_run None refused status at some is same done = cc
   by_run (Some doc) None status at some is same done = rw same (done same)
   by_run (Some doc) (Some e) status at some is same done = rw same (record { doc = doc; is = at; event = e; refused = is })
 
-  cause_of : (ending : Ending) → IsEnding asked before after kept ending → (ending_status ending ≡ S.Done → HasDone kept) → IsCaused (ending_status ending) asked before after kept
+  cause_of : (ending : Ending) → IsEnding shelf asked before after kept ending → (ending_status ending ≡ S.Done → HasDone kept) → IsCaused shelf (ending_status ending) asked before after kept
   cause_of bad_words is done = is
   cause_of unread is done = tt
   cause_of no_memory is done = tt
@@ -160,58 +182,58 @@ module _ (asked : Option Options) (before after : Option (List ℕ)) (kept : Kep
   cause_of (bad_line k) is done = absurd is
   cause_of (output status text) is done = by_run kept.doc kept.refused status refl is.2 refl is.3 done
 
-  pub causes : (status : Status) (old new : Option (List ℕ)) → IsAnswer asked before after kept status old new → IsCaused status asked before after kept
+  pub causes : (status : Status) (old new : Option (List ℕ)) → IsAnswer shelf meanings asked before after kept status old new → IsCaused shelf status asked before after kept
   causes status old new a = by_status (status_of a.printed.ending status old new a.printed.written)
     where
-      by_status : (status ≡ S.Write) ⊎ ((status ≡ S.Memory) ⊎ (status ≡ ending_status a.printed.ending)) → IsCaused status asked before after kept
+      by_status : (status ≡ S.Write) ⊎ ((status ≡ S.Memory) ⊎ (status ≡ ending_status a.printed.ending)) → IsCaused shelf status asked before after kept
       by_status (inl e) = rw e tt
       by_status (inr (inl e)) = rw e tt
       by_status (inr (inr e)) = rw e (cause_of a.printed.ending a.printed.is (λ same. a.done (e ∙ same)))
 
   -- ---- the other way round
 
-  all_read : (all bytes : List ℕ) (read : Result Doc DocFault) → Gives (Some all) bytes after → IsAtEnd after → document QUEUES [] bytes ≡ read → document QUEUES [] all ≡ read
+  all_read : (all bytes : List ℕ) (read : Result Doc DocFault) → Gives (Some all) bytes after → IsAtEnd after → document OFFERED shelf bytes ≡ read → document OFFERED shelf all ≡ read
   all_read all bytes read gives end is = by_rest after gives end
     where
-      by_rest : (rest : Option (List ℕ)) → Gives (Some all) bytes rest → IsAtEnd rest → document QUEUES [] all ≡ read
+      by_rest : (rest : Option (List ℕ)) → Gives (Some all) bytes rest → IsAtEnd rest → document OFFERED shelf all ≡ read
       by_rest None g e = absurd g
       by_rest (Some rest) g e = let same : all ≡ bytes = g ∙ (ap (λ (r : List ℕ). bytes ++ r) e ∙ append-nil bytes) in rw same is
 
-  too_many : (all taken : List ℕ) → Gives (Some all) taken after → nat_lt most_read (length taken) ≡ true → document QUEUES [] all ≡ Err D.TooLong
+  too_many : (all taken : List ℕ) → Gives (Some all) taken after → nat_lt most_read (length taken) ≡ true → document OFFERED shelf all ≡ Err D.TooLong
   too_many all taken gives long = by_rest after gives
     where
       more : (rest : List ℕ) → nat_lt most_read (length (taken ++ rest)) ≡ true
       more rest = rw (length_both taken rest) (grind (arith))
 
-      by_rest : (rest : Option (List ℕ)) → Gives (Some all) taken rest → document QUEUES [] all ≡ Err D.TooLong
+      by_rest : (rest : Option (List ℕ)) → Gives (Some all) taken rest → document OFFERED shelf all ≡ Err D.TooLong
       by_rest None g = absurd g
-      by_rest (Some rest) g = rw g (too_long (taken ++ rest) (more rest))
+      by_rest (Some rest) g = rw g (too_long shelf (taken ++ rest) (more rest))
 
-  refused_all : (all : List ℕ) (fault : DocFault) → IsRefused (Some all) after fault → document QUEUES [] all ≡ Err fault
+  refused_all : (all : List ℕ) (fault : DocFault) → IsRefused shelf (Some all) after fault → document OFFERED shelf all ≡ Err fault
   refused_all all D.TooLong took = too_many all took.0 took.1 took.2
   refused_all all D.Syntax r = all_read all r.bytes (Err D.Syntax) r.taken r.whole r.is
   refused_all all (D.Place path want) r = all_read all r.bytes (Err (D.Place path want)) r.taken r.whole r.is
   refused_all all (D.Shape fault) r = all_read all r.bytes (Err (D.Shape fault)) r.taken r.whole r.is
   refused_all all D.Memory r = all_read all r.bytes (Err D.Memory) r.taken r.whole r.is
 
-  by_bytes : (options : Options) (left : Option (List ℕ)) (read : Result Doc DocFault) (status : Status) → ((all : List ℕ) → left ≡ Some all → document QUEUES [] all ≡ read) → IsDueTo read status → IsDue (Some options) left status
+  by_bytes : (options : Options) (left : Option (List ℕ)) (read : Result Doc DocFault) (status : Status) → ((all : List ℕ) → left ≡ Some all → document OFFERED shelf all ≡ read) → IsDueTo read status → IsDue shelf (Some options) left status
   by_bytes options None read status told due = tt
   by_bytes options (Some all) read status told due = rw (told all refl) due
 
-  due_refused : (o : Option Options) (fault : DocFault) → is_some o ≡ true → IsRefused before after fault → IsDue o before (fault_status fault)
+  due_refused : (o : Option Options) (fault : DocFault) → is_some o ≡ true → IsRefused shelf before after fault → IsDue shelf o before (fault_status fault)
   due_refused None fault some r = cc
-  due_refused (Some options) fault some r = by_bytes options before (Err fault) (fault_status fault) (λ all e. refused_all all fault (subst (λ (b : Option (List ℕ)). IsRefused b after fault) e r)) refl
+  due_refused (Some options) fault some r = by_bytes options before (Err fault) (fault_status fault) (λ all e. refused_all all fault (subst (λ (b : Option (List ℕ)). IsRefused shelf b after fault) e r)) refl
 
   due_run : (refused : Option Event) (doc : Doc) → IsDueTo (Ok doc) (run_status refused)
   due_run None doc = inl refl
   due_run (Some e) doc = inr refl
 
-  due_output : (options : Options) (o : Option Doc) → is_some o ≡ true → IfSome o (λ doc. IsRead before after (Ok doc)) → IsDue (Some options) before (run_status kept.refused)
+  due_output : (options : Options) (o : Option Doc) → is_some o ≡ true → IfSome o (λ doc. IsRead shelf before after (Ok doc)) → IsDue shelf (Some options) before (run_status kept.refused)
   due_output options None some r = cc
-  due_output options (Some doc) some r = by_bytes options before (Ok doc) (run_status kept.refused) (λ all e. let s : IsRead (Some all) after (Ok doc) = subst (λ (b : Option (List ℕ)). IsRead b after (Ok doc)) e r in all_read all s.bytes (Ok doc) s.taken s.whole s.is) (due_run kept.refused doc)
+  due_output options (Some doc) some r = by_bytes options before (Ok doc) (run_status kept.refused) (λ all e. let s : IsRead shelf (Some all) after (Ok doc) = subst (λ (b : Option (List ℕ)). IsRead shelf b after (Ok doc)) e r in all_read all s.bytes (Ok doc) s.taken s.whole s.is) (due_run kept.refused doc)
 
   -- the status of an ending, unless the source failed or memory ran out
-  due_ending : (ending : Ending) → IsEnding asked before after kept ending → IfSome kept.doc (λ doc. IsRead before after (Ok doc)) → (ending_status ending ≡ S.Read → ⊥) → (ending_status ending ≡ S.Memory) ⊎ IsDue asked before (ending_status ending)
+  due_ending : (ending : Ending) → IsEnding shelf asked before after kept ending → IfSome kept.doc (λ doc. IsRead shelf before after (Ok doc)) → (ending_status ending ≡ S.Read → ⊥) → (ending_status ending ≡ S.Memory) ⊎ IsDue shelf asked before (ending_status ending)
   due_ending bad_words is doc never = inr (rw is refl)
   due_ending unread is doc never = absurd (never refl)
   due_ending no_memory is doc never = inl refl
@@ -219,10 +241,10 @@ module _ (asked : Option Options) (before after : Option (List ℕ)) (kept : Kep
   due_ending (bad_line k) is doc never = absurd is
   due_ending (output status text) is doc never = inr (rw (is.1, is.3) (due_output is.0 kept.doc is.2 doc))
 
-  pub completes : (status : Status) (old new : Option (List ℕ)) → IsAnswer asked before after kept status old new → (status ≡ S.Read → ⊥) → (status ≡ S.Write → ⊥) → (status ≡ S.Memory) ⊎ IsDue asked before status
+  pub completes : (status : Status) (old new : Option (List ℕ)) → IsAnswer shelf meanings asked before after kept status old new → (status ≡ S.Read → ⊥) → (status ≡ S.Write → ⊥) → (status ≡ S.Memory) ⊎ IsDue shelf asked before status
   completes status old new a reads writes = by_status (status_of a.printed.ending status old new a.printed.written)
     where
-      by_status : (status ≡ S.Write) ⊎ ((status ≡ S.Memory) ⊎ (status ≡ ending_status a.printed.ending)) → (status ≡ S.Memory) ⊎ IsDue asked before status
+      by_status : (status ≡ S.Write) ⊎ ((status ≡ S.Memory) ⊎ (status ≡ ending_status a.printed.ending)) → (status ≡ S.Memory) ⊎ IsDue shelf asked before status
       by_status (inl e) = absurd (writes e)
       by_status (inr (inl e)) = inl e
       by_status (inr (inr e)) = rw e (due_ending a.printed.ending a.printed.is a.document.read (λ same. reads (e ∙ same)))
@@ -230,7 +252,7 @@ module _ (asked : Option Options) (before after : Option (List ℕ)) (kept : Kep
   -- ---- what is left
 
   -- without a document nothing was run
-  pub answers_without : (status : Status) (old new : Option (List ℕ)) → kept.doc ≡ None → IsFresh kept → IsPrinted asked before after kept status old new → IsAnswer asked before after kept status old new
+  pub answers_without : (status : Status) (old new : Option (List ℕ)) → kept.doc ≡ None → IsFresh kept → IsPrinted shelf asked before after kept status old new → IsAnswer shelf meanings asked before after kept status old new
   answers_without status old new none fresh printed = record {
     document = record {
       read = (rw none tt);
@@ -255,7 +277,7 @@ module _ (asked : Option Options) (before after : Option (List ℕ)) (kept : Kep
       unlike_some None doc n s = cc
       unlike_some (Some d) doc n s = cc
 
-      not_done : (ending : Ending) → IsEnding asked before after kept ending → S.Done ≡ ending_status ending → ⊥
+      not_done : (ending : Ending) → IsEnding shelf asked before after kept ending → S.Done ≡ ending_status ending → ⊥
       not_done bad_words is e = cc
       not_done unread is e = cc
       not_done no_memory is e = cc
@@ -267,24 +289,24 @@ module _ (asked : Option Options) (before after : Option (List ℕ)) (kept : Kep
       not_done (bad_line k) is e = absurd is
       not_done (output s text) is e = unlike kept.doc none is.2
 
-      by_ending : (ending : Ending) → IsEnding asked before after kept ending → status ≡ S.Done → (status ≡ S.Write) ⊎ ((status ≡ S.Memory) ⊎ (status ≡ ending_status ending)) → ⊥
+      by_ending : (ending : Ending) → IsEnding shelf asked before after kept ending → status ≡ S.Done → (status ≡ S.Write) ⊎ ((status ≡ S.Memory) ⊎ (status ≡ ending_status ending)) → ⊥
       by_ending ending is same (inl e) = cc
       by_ending ending is same (inr (inl e)) = cc
       by_ending ending is same (inr (inr e)) = not_done ending is (sym same ∙ e)
 
 -- words that are no line
-pub answers_words : (before : Option (List ℕ)) (asked : Option Options) (kept : Kept) (status : Status) (old new : Option (List ℕ)) → asked ≡ None → kept.doc ≡ None → IsFresh kept → IsSaid words_text S.Words status old new → IsAnswer asked before before kept status old new
-answers_words before asked kept status old new bad none fresh said = answers_without asked before before kept status old new none fresh (record { ending = bad_words; is = bad; written = says_words status old new said })
+pub answers_words : (shelf : List (List ℕ)) (meanings : Meanings) (before : Option (List ℕ)) (asked : Option Options) (kept : Kept) (status : Status) (old new : Option (List ℕ)) → asked ≡ None → kept.doc ≡ None → IsFresh kept → IsSaid words_text S.Words status old new → IsAnswer shelf meanings asked before before kept status old new
+answers_words shelf meanings before asked kept status old new bad none fresh said = answers_without shelf meanings asked before before kept status old new none fresh (record { ending = bad_words; is = bad; written = says_words status old new said })
 
 -- memory ran out before anything was read
-pub answers_memory : (before : Option (List ℕ)) (asked : Option Options) (kept : Kept) (status : Status) (old new : Option (List ℕ)) → kept.doc ≡ None → IsFresh kept → IsSaid memory_text S.Memory status old new → IsAnswer asked before before kept status old new
-answers_memory before asked kept status old new none fresh said = answers_without asked before before kept status old new none fresh (record { ending = no_memory; is = tt; written = says_memory status old new said })
+pub answers_memory : (shelf : List (List ℕ)) (meanings : Meanings) (before : Option (List ℕ)) (asked : Option Options) (kept : Kept) (status : Status) (old new : Option (List ℕ)) → kept.doc ≡ None → IsFresh kept → IsSaid memory_text S.Memory status old new → IsAnswer shelf meanings asked before before kept status old new
+answers_memory shelf meanings before asked kept status old new none fresh said = answers_without shelf meanings asked before before kept status old new none fresh (record { ending = no_memory; is = tt; written = says_memory status old new said })
 
 -- the source gave no document
-pub answers_input : (before after : Option (List ℕ)) (options : Options) (fault : InputFault) (kept : Kept) (status : Status) (old new : Option (List ℕ)) → Reads before after (Err fault) → kept.doc ≡ None → IsFresh kept → IsEnded (fault_ending fault) status old new → IsAnswer (Some options) before after kept status old new
-answers_input before after options fault kept status old new reads none fresh ended = answers_without (Some options) before after kept status old new none fresh (record { ending = ended.last; is = by_last ended.is; written = ended.written })
+pub answers_input : (shelf : List (List ℕ)) (meanings : Meanings) (before after : Option (List ℕ)) (options : Options) (fault : InputFault) (kept : Kept) (status : Status) (old new : Option (List ℕ)) → Reads shelf before after (Err fault) → kept.doc ≡ None → IsFresh kept → IsEnded (fault_ending fault) status old new → IsAnswer shelf meanings (Some options) before after kept status old new
+answers_input shelf meanings before after options fault kept status old new reads none fresh ended = answers_without shelf meanings (Some options) before after kept status old new none fresh (record { ending = ended.last; is = by_last ended.is; written = ended.written })
   where
-    is_of : (f : InputFault) → Reads before after (Err f) → IsEnding (Some options) before after kept (fault_ending f)
+    is_of : (f : InputFault) → Reads shelf before after (Err f) → IsEnding shelf (Some options) before after kept (fault_ending f)
     is_of I.Unread r = refl
     is_of (I.Bad D.TooLong) r = (refl, r)
     is_of (I.Bad D.Syntax) r = (refl, r)
@@ -292,20 +314,20 @@ answers_input before after options fault kept status old new reads none fresh en
     is_of (I.Bad (D.Shape f)) r = (refl, r)
     is_of (I.Bad D.Memory) r = tt
 
-    by_last : (ended.last ≡ fault_ending fault) ⊎ (ended.last ≡ no_memory) → IsEnding (Some options) before after kept ended.last
+    by_last : (ended.last ≡ fault_ending fault) ⊎ (ended.last ≡ no_memory) → IsEnding shelf (Some options) before after kept ended.last
     by_last (inl same) = rw same (is_of fault reads)
     by_last (inr same) = rw same tt
 
 -- a document was run
-pub answers_run : (before after : Option (List ℕ)) (options : Options) (doc : Doc) (kept : Kept) (status : Status) (old new : Option (List ℕ)) → IsRead before after (Ok doc) → IsRun options doc kept → IsEnded (report_ending options kept) status old new → (status ≡ S.Done → IsWhole doc kept) → IsAnswer (Some options) before after kept status old new
-answers_run before after options doc kept status old new read run ended whole = record {
+pub answers_run : (shelf : List (List ℕ)) (meanings : Meanings) (before after : Option (List ℕ)) (options : Options) (doc : Doc) (kept : Kept) (status : Status) (old new : Option (List ℕ)) → IsRead shelf before after (Ok doc) → IsRun meanings options doc kept → IsEnded (report_ending options kept) status old new → (status ≡ S.Done → IsWhole doc kept) → IsAnswer shelf meanings (Some options) before after kept status old new
+answers_run shelf meanings before after options doc kept status old new read run ended whole = record {
   document = record {
     read = rw run.document read;
     line = λ some. refl;
     empty = λ none. absurd (unlike kept.doc run.document none);
     live = run.live;
   };
-  legal = λ o d a e. of_run IsLegalRun o d a e run.legal;
+  legal = λ o d a e. of_run (IsLegalRun meanings) o d a e run.legal;
   refused = λ o d a e. of_run (IsRefusedLast kept.refused) o d a e run.refused;
   scripts = λ o d a e. of_run FollowsCallers o d a e run.scripts;
   waits = λ o d a e. of_run HeedsCallers o d a e run.waits;
@@ -328,6 +350,6 @@ answers_run before after options doc kept status old new read run ended whole = 
     of_run : (Holds : Options → Doc → List Event → Type 0) (o : Options) (d : Doc) → Some options ≡ Some o → kept.doc ≡ Some d → Holds options doc kept.journal → Holds o d kept.journal
     of_run Holds o d a e h = subst (λ (x : Doc). Holds o x kept.journal) (same_doc kept.doc d run.document e) (subst (λ (x : Options). Holds x doc kept.journal) (same_options o a) h)
 
-    by_last : (ended.last ≡ report_ending options kept) ⊎ (ended.last ≡ no_memory) → IsEnding (Some options) before after kept ended.last
+    by_last : (ended.last ≡ report_ending options kept) ⊎ (ended.last ≡ no_memory) → IsEnding shelf (Some options) before after kept ended.last
     by_last (inl same) = rw same (options, refl, (rw run.document refl), refl, refl)
     by_last (inr same) = rw same tt

@@ -9,7 +9,6 @@ use Rattle.flow_doc.specs.declared.Doc.{Doc}
 use Rattle.flow_doc.specs.declared.Kept.{Kept}
 use Rattle.flow_doc.specs.declared.DocFault.{DocFault}
 use Rattle.flow_doc.specs.declared.DocFault.TheVariants as D
-use Rattle.flow_doc.specs.declared.TheConstants.{QUEUES}
 use Rattle.flow_doc.specs.Reading.{document}
 use Rattle.flow_io.specs.Streams.{Gives, IsAtEnd}
 use Rattle.flow_io.specs.Whole.{Took, most_read}
@@ -19,6 +18,7 @@ use Rattle.flow_print.specs.Faults.{fault_status}
 use Rattle.flow_print.specs.Outputs.{Ending, bad_words, unread, no_memory, bad_document, bad_line, output, IsWritten}
 use Rattle.flow_print.specs.Report.{run_status, run_report}
 use Rattle.flow_work.specs.Promises.{FollowsScripts, CompletesScripts, HeedsWaits, KeepsBodies, IsWithinLimits, IsRefusedNext, AtEachStart, EdgesAgree, HoldsAgree, NodesWithinLimits, LedgerAddsUp, ItemsHaveOneFate, ItemsHaveLineages, HoldsReserve, NothingIsHeld, ParentsWereBorn}
+use Rattle.flow_cli.specs.declared.input.TheConstants.{OFFERED}
 use Rattle.flow_cli.specs.declared.words.Options.{Options}
 
 -- the most events of a run
@@ -27,24 +27,24 @@ most_events = 32000000
 
 -- ---- what was read
 
--- all bytes that the source had left were taken, and this is what they are read as
-pub record IsRead (before after : Option (List ℕ)) (read : Result Doc DocFault) : Type 0 where
+-- all bytes that the source had left were taken, and this is what they are read as, with the names of a shelf
+pub record IsRead (shelf : List (List ℕ)) (before after : Option (List ℕ)) (read : Result Doc DocFault) : Type 0 where
   pub bytes : List ℕ
   pub taken : Gives before bytes after
   pub whole : IsAtEnd after
   pub short : length bytes ≤ most_read
-  pub is : document QUEUES [] bytes ≡ read
+  pub is : document OFFERED shelf bytes ≡ read
 
 -- the bytes that were taken are no document by this fault
-abbrev pub IsRefused : Option (List ℕ) → Option (List ℕ) → DocFault → Type 0
-IsRefused before after D.TooLong = Took before after true
-IsRefused before after fault = IsRead before after (Err fault)
+abbrev pub IsRefused : List (List ℕ) → Option (List ℕ) → Option (List ℕ) → DocFault → Type 0
+IsRefused shelf before after D.TooLong = Took before after true
+IsRefused shelf before after fault = IsRead shelf before after (Err fault)
 
 -- ---- what is kept
 
 -- a document that is kept is that of all bytes of the source, and the words asked for its run; without one nothing was run
-pub record KeepsDocument (asked : Option Options) (before after : Option (List ℕ)) (kept : Kept) : Type 0 where
-  pub read : IfSome kept.doc (λ doc. IsRead before after (Ok doc))
+pub record KeepsDocument (shelf : List (List ℕ)) (asked : Option Options) (before after : Option (List ℕ)) (kept : Kept) : Type 0 where
+  pub read : IfSome kept.doc (λ doc. IsRead shelf before after (Ok doc))
   pub line : is_some kept.doc ≡ true → is_some asked ≡ true
   pub empty : kept.doc ≡ None → (kept.journal ≡ []) × (kept.refused ≡ None)
   pub live : kept.live ≡ []
@@ -53,11 +53,11 @@ pub record KeepsDocument (asked : Option Options) (before after : Option (List �
 abbrev pub OfRun : Option Options → Kept → (Options → Doc → List Event → Type 0) → Type 0
 OfRun asked kept Holds = (options : Options) (doc : Doc) → asked ≡ Some options → kept.doc ≡ Some doc → Holds options doc kept.journal
 
--- a legal run of the document's callers and one worker, in the order of one thread, within the limits
-pub record IsLegalRun (options : Options) (doc : Doc) (es : List Event) : Type 0 where
+-- a legal run of the document's callers and one worker, in the order of one thread, with these meanings of its bodies, within the limits
+pub record IsLegalRun (meanings : Meanings) (options : Options) (doc : Doc) (es : List Event) : Type 0 where
   pub legal : is_run doc.shape (length doc.scripts) 1 es ≡ true
   pub scheduled : is_scheduled doc.shape doc.scripts es ≡ true
-  pub bodies : (meanings : Meanings) → KeepsBodies meanings doc.shape es
+  pub bodies : KeepsBodies meanings doc.shape es
   pub limits : IsWithinLimits options.items most_events es
 
 -- right after the journal the event may come next, and passes a limit
@@ -104,18 +104,18 @@ pub record HasStopped (kept : Kept) : Type 0 where
   pub refused : kept.refused ≡ Some event
 
 -- Why the command ended with this status. That a source or a sink failed is told by its faults; memory may run out at any point.
-abbrev pub IsCaused : Status → Option Options → Option (List ℕ) → Option (List ℕ) → Kept → Type 0
-IsCaused S.Done asked before after kept = HasDone kept
-IsCaused S.Words asked before after kept = asked ≡ None
-IsCaused S.Read asked before after kept = ⊤
-IsCaused S.Write asked before after kept = ⊤
-IsCaused S.Long asked before after kept = Took before after true
-IsCaused S.Syntax asked before after kept = IsRead before after (Err D.Syntax)
-IsCaused S.Document asked before after kept = (fault : DocFault) × (fault_status fault ≡ S.Document) × IsRead before after (Err fault)
-IsCaused S.Shape asked before after kept = (fault : DocFault) × (fault_status fault ≡ S.Shape) × IsRead before after (Err fault)
-IsCaused S.Limit asked before after kept = HasStopped kept
-IsCaused S.Memory asked before after kept = ⊤
-IsCaused S.Journal asked before after kept = ⊥
+abbrev pub IsCaused : List (List ℕ) → Status → Option Options → Option (List ℕ) → Option (List ℕ) → Kept → Type 0
+IsCaused shelf S.Done asked before after kept = HasDone kept
+IsCaused shelf S.Words asked before after kept = asked ≡ None
+IsCaused shelf S.Read asked before after kept = ⊤
+IsCaused shelf S.Write asked before after kept = ⊤
+IsCaused shelf S.Long asked before after kept = Took before after true
+IsCaused shelf S.Syntax asked before after kept = IsRead shelf before after (Err D.Syntax)
+IsCaused shelf S.Document asked before after kept = (fault : DocFault) × (fault_status fault ≡ S.Document) × IsRead shelf before after (Err fault)
+IsCaused shelf S.Shape asked before after kept = (fault : DocFault) × (fault_status fault ≡ S.Shape) × IsRead shelf before after (Err fault)
+IsCaused shelf S.Limit asked before after kept = HasStopped kept
+IsCaused shelf S.Memory asked before after kept = ⊤
+IsCaused shelf S.Journal asked before after kept = ⊥
 
 -- the status that the bytes ask for
 abbrev pub IsDueTo : Result Doc DocFault → Status → Type 0
@@ -123,25 +123,25 @@ IsDueTo (Ok doc) status = (status ≡ S.Done) ⊎ (status ≡ S.Limit)
 IsDueTo (Err fault) status = status ≡ fault_status fault
 
 -- the status that the words ask for, and where they are a line the bytes that the source has left, if it tells them
-abbrev pub IsDue : Option Options → Option (List ℕ) → Status → Type 0
-IsDue None left status = status ≡ S.Words
-IsDue (Some options) None status = ⊤
-IsDue (Some options) (Some bytes) status = IsDueTo (document QUEUES [] bytes) status
+abbrev pub IsDue : List (List ℕ) → Option Options → Option (List ℕ) → Status → Type 0
+IsDue shelf None left status = status ≡ S.Words
+IsDue shelf (Some options) None status = ⊤
+IsDue shelf (Some options) (Some bytes) status = IsDueTo (document OFFERED shelf bytes) status
 
 -- ---- what is printed
 
 -- what is to be written, by the words, the bytes and the run that is kept
-abbrev pub IsEnding : Option Options → Option (List ℕ) → Option (List ℕ) → Kept → Ending → Type 0
-IsEnding asked before after kept bad_words = asked ≡ None
-IsEnding asked before after kept unread = is_some asked ≡ true
-IsEnding asked before after kept no_memory = ⊤
-IsEnding asked before after kept (bad_document fault) = (is_some asked ≡ true) × IsRefused before after fault
-IsEnding asked before after kept (bad_line k) = ⊥
-IsEnding asked before after kept (output status text) =
+abbrev pub IsEnding : List (List ℕ) → Option Options → Option (List ℕ) → Option (List ℕ) → Kept → Ending → Type 0
+IsEnding shelf asked before after kept bad_words = asked ≡ None
+IsEnding shelf asked before after kept unread = is_some asked ≡ true
+IsEnding shelf asked before after kept no_memory = ⊤
+IsEnding shelf asked before after kept (bad_document fault) = (is_some asked ≡ true) × IsRefused shelf before after fault
+IsEnding shelf asked before after kept (bad_line k) = ⊥
+IsEnding shelf asked before after kept (output status text) =
     (options : Options) × (asked ≡ Some options) × (is_some kept.doc ≡ true) × (status ≡ run_status kept.refused) × (text ≡ run_report kept options.journal)
 
 -- that is written, as much of it as the status says
-pub record IsPrinted (asked : Option Options) (before after : Option (List ℕ)) (kept : Kept) (status : Status) (old new : Option (List ℕ)) : Type 0 where
+pub record IsPrinted (shelf : List (List ℕ)) (asked : Option Options) (before after : Option (List ℕ)) (kept : Kept) (status : Status) (old new : Option (List ℕ)) : Type 0 where
   pub ending : Ending
-  pub is : IsEnding asked before after kept ending
+  pub is : IsEnding shelf asked before after kept ending
   pub written : IsWritten ending status old new

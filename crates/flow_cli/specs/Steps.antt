@@ -1,6 +1,7 @@
 -- What the steps of a command come to.
 use Rattle.std.specs.Prelude.{◌≡◌, ◌⊎◌, ⊤, ℕ, true, IfSome, Option, Some, None, Result, Ok, Err, List, []}
 use Rattle.flow_item.specs.declared.event.Event.{Event}
+use Rattle.flow_machine.specs.Bodies.{Meanings}
 use Rattle.flow_doc.specs.declared.Doc.{Doc}
 use Rattle.flow_doc.specs.declared.Kept.{Kept}
 use Rattle.flow_doc.specs.declared.DocFault.TheVariants as D
@@ -15,11 +16,11 @@ use Rattle.flow_cli.specs.declared.input.InputFault.TheVariants as I
 use Rattle.flow_cli.specs.Plain.{IsRead, IsRefused, KeepsDocument, OfRun, IsLegalRun, IsRefusedLast, FollowsCallers, HeedsCallers, AgreesThroughout, IsDone, HasDone, IsPrinted}
 
 -- what was taken of a source and what it is read as
-abbrev pub Reads : Option (List ℕ) → Option (List ℕ) → Result Doc InputFault → Type 0
-Reads before after (Ok doc) = IsRead before after (Ok doc)
-Reads before after (Err I.Unread) = ⊤
-Reads before after (Err (I.Bad D.Memory)) = ⊤
-Reads before after (Err (I.Bad fault)) = IsRefused before after fault
+abbrev pub Reads : List (List ℕ) → Option (List ℕ) → Option (List ℕ) → Result Doc InputFault → Type 0
+Reads shelf before after (Ok doc) = IsRead shelf before after (Ok doc)
+Reads shelf before after (Err I.Unread) = ⊤
+Reads shelf before after (Err (I.Bad D.Memory)) = ⊤
+Reads shelf before after (Err (I.Bad fault)) = IsRefused shelf before after fault
 
 -- a text stands written at its status, or a first part of it where writing failed
 abbrev pub IsSaid : List ℕ → Status → Status → Option (List ℕ) → Option (List ℕ) → Type 0
@@ -41,24 +42,24 @@ abbrev pub report_ending : Options → Kept → Ending
 report_ending options kept = output (run_status kept.refused) (run_report kept options.journal)
 
 -- what a run of the document keeps
-pub record IsRun (options : Options) (doc : Doc) (kept : Kept) : Type 0 where
+pub record IsRun (meanings : Meanings) (options : Options) (doc : Doc) (kept : Kept) : Type 0 where
   pub document : kept.doc ≡ Some doc
   pub live : kept.live ≡ []
-  pub legal : IsLegalRun options doc kept.journal
+  pub legal : IsLegalRun meanings options doc kept.journal
   pub refused : IsRefusedLast kept.refused options doc kept.journal
   pub scripts : FollowsCallers options doc kept.journal
   pub waits : HeedsCallers options doc kept.journal
   pub throughout : AgreesThroughout options doc kept.journal
 
 -- all that the command leaves
-pub record IsAnswer (asked : Option Options) (before after : Option (List ℕ)) (kept : Kept) (status : Status) (old new : Option (List ℕ)) : Type 0 where
-  pub document : KeepsDocument asked before after kept
-  pub legal : OfRun asked kept IsLegalRun
+pub record IsAnswer (shelf : List (List ℕ)) (meanings : Meanings) (asked : Option Options) (before after : Option (List ℕ)) (kept : Kept) (status : Status) (old new : Option (List ℕ)) : Type 0 where
+  pub document : KeepsDocument shelf asked before after kept
+  pub legal : OfRun asked kept (IsLegalRun meanings)
   pub refused : OfRun asked kept (IsRefusedLast kept.refused)
   pub scripts : OfRun asked kept FollowsCallers
   pub waits : OfRun asked kept HeedsCallers
   pub throughout : OfRun asked kept AgreesThroughout
-  pub printed : IsPrinted asked before after kept status old new
+  pub printed : IsPrinted shelf asked before after kept status old new
   pub done : status ≡ S.Done → HasDone kept
 
 -- the run came to its end

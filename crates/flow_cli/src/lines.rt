@@ -1,5 +1,5 @@
 // The lines of faults, written.
-ghost use Rattle.std.specs.Prelude.{◌≡◌};
+ghost use Rattle.std.specs.Prelude.{◌≡◌, ◌⊎◌, true};
 ghost use Rattle.flow_io.specs.Streams.{Rose};
 ghost use Rattle.flow_print.specs.Faults.{fault_status, memory_text};
 ghost use Rattle.flow_print.specs.Outputs.{bad_document};
@@ -14,6 +14,7 @@ use std::alloc::Global;
 /// Writes a text and finishes the sink. The status is the text's, unless writing fails.
 pub(crate) fn say<K: Sink>(sink: &mut K, text: &str, status: Status) -> Status
     ensures said { IsSaid text.now status result (K.written sink.old) (K.written sink.new) }
+    ensures sent { (result ≡ Status.Write → ⊥) → K.is_sent sink.new ≡ true }
     ensures cause { (status ≡ Status.Write → ⊥) → result ≡ Status.Write → Rose (K.faults sink.old) (K.faults sink.new) (K.is_full sink.new) }
 {
     match write_all(sink, text.as_bytes()) {
@@ -29,9 +30,23 @@ pub(crate) fn say<K: Sink>(sink: &mut K, text: &str, status: Status) -> Status
 /// writing fails.
 pub fn tell_no_memory<K: Sink>(sink: &mut K) -> Status
     ensures said { IsSaid memory_text Status.Memory result (K.written sink.old) (K.written sink.new) }
+    ensures sent { (result ≡ Status.Write → ⊥) → K.is_sent sink.new ≡ true }
     ensures cause { result ≡ Status.Write → Rose (K.faults sink.old) (K.faults sink.new) (K.is_full sink.new) }
 {
     say(sink, memory_text(), Status::Memory)
+}
+
+/// Finishes the sink after a report that was cut for want of memory.
+pub(crate) fn send_cut<K: Sink>(sink: &mut K) -> Status
+    ensures same { K.written sink.new ≡ K.written sink.old }
+    ensures status { (result ≡ Status.Memory) ⊎ (result ≡ Status.Write) }
+    ensures sent { (result ≡ Status.Write → ⊥) → K.is_sent sink.new ≡ true }
+    ensures cause { result ≡ Status.Write → Rose (K.faults sink.old) (K.faults sink.new) (K.is_full sink.new) }
+{
+    match sink.finish() {
+        Ok(()) => Status::Memory,
+        Err(_) => Status::Write,
+    }
 }
 
 fn fault_status(fault: &DocFault) -> Status
@@ -48,6 +63,7 @@ fn fault_status(fault: &DocFault) -> Status
 
 fn refuse_document<K: Sink>(alloc: Global, fault: &DocFault, sink: &mut K) -> Status
     ensures ended { IsEnded (bad_document fault.now) result (K.written sink.old) (K.written sink.new) }
+    ensures sent { (result ≡ Status.Write → ⊥) → K.is_sent sink.new ≡ true }
     ensures cause { result ≡ Status.Write → Rose (K.faults sink.old) (K.faults sink.new) (K.is_full sink.new) }
 {
     match fault_text(alloc, fault) {
@@ -59,6 +75,7 @@ fn refuse_document<K: Sink>(alloc: Global, fault: &DocFault, sink: &mut K) -> St
 /// Writes the line of what was wrong with the input.
 pub(crate) fn refuse<K: Sink>(alloc: Global, fault: &InputFault, sink: &mut K) -> Status
     ensures ended { IsEnded (fault_ending fault.now) result (K.written sink.old) (K.written sink.new) }
+    ensures sent { (result ≡ Status.Write → ⊥) → K.is_sent sink.new ≡ true }
     ensures cause { result ≡ Status.Write → Rose (K.faults sink.old) (K.faults sink.new) (K.is_full sink.new) }
 {
     match fault {

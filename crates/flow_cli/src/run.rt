@@ -1,6 +1,7 @@
 // The run of a document, and its report.
-ghost use Rattle.std.specs.Prelude.{◌≡◌, ◌<◌, true, is_some, OnOk};
+ghost use Rattle.std.specs.Prelude.{◌≡◌, ◌<◌, true, is_some, length, OnOk};
 ghost use Rattle.std.specs.List.{list_all};
+ghost use Rattle.flow_body.specs.Shelves.{meanings_of_shelf};
 ghost use Rattle.flow_doc.specs.Fits.{doc_fits};
 ghost use Rattle.flow_io.specs.Streams.{Rose};
 ghost use Rattle.flow_node.specs.Built.{is_built};
@@ -10,8 +11,9 @@ ghost use Rattle.flow_work.specs.Plain.{outcome_of, HandsOn};
 ghost use Rattle.flow_work.specs.Promises.{IsFresh, is_limit};
 ghost use Rattle.flow_cli.specs.Steps.{IsEnded, IsRun, IsWhole, report_ending};
 
-use crate::lines::tell_no_memory;
+use crate::lines::{send_cut, tell_no_memory};
 use crate::words::Options;
+use flow_body::Shelf;
 use flow_doc::{Doc, Kept};
 use flow_io::Sink;
 use flow_item::Event;
@@ -24,12 +26,12 @@ use std::alloc::Global;
 const MOST_EVENTS: u64 = 32_000_000;
 
 // Runs a document, and keeps it with what it came to.
-fn run_kept(alloc: Global, options: Options, doc: Doc, kept: &mut Kept) -> Ending
-    requires fits { doc_fits 0 doc ≡ true }
+fn run_kept(alloc: Global, options: Options, doc: Doc, shelf: &Shelf, kept: &mut Kept) -> Ending
+    requires fits { doc_fits (length shelf.now.bodies.items) doc ≡ true }
     requires built { list_all is_built doc.shape.nodes ≡ true }
     requires version { doc.version < 3 }
     requires fresh { IsFresh kept.old }
-    ensures run { IsRun options doc kept.new }
+    ensures run { IsRun (meanings_of_shelf (λ n. pure (n.body.vtable, n.body.value)) (λ n. single (n.body.vtable, n.body.value)) (λ n. out (n.body.vtable, n.body.value)) shelf.now.bodies.items) options doc kept.new }
     ensures whole { OnOk (outcome_of result) (IsWhole doc kept.new) }
     ensures limit { is_some kept.new.refused ≡ is_limit (outcome_of result) }
     ensures nodes { HandsOn doc.shape kept.new.journal result }
@@ -59,13 +61,14 @@ fn print_kept<K: Sink>(
     requires kept { MayBePrinted kept.now.doc kept.now.journal }
     requires states { AreStates kept.now.doc kept.now.journal nodes.now }
     ensures ended { IsEnded (report_ending options kept.now) result (K.written sink.old) (K.written sink.new) }
+    ensures sent { (result ≡ Status.Write → ⊥) → K.is_sent sink.new ≡ true }
     ensures cause { result ≡ Status.Write → Rose (K.faults sink.old) (K.faults sink.new) (K.is_full sink.new) }
 {
     let status = run_status(&kept.refused);
     match print_report_of(alloc, kept, nodes, status, options.journal, sink) {
         Ok(()) => status,
         Err(PrintFault::Write) => Status::Write,
-        Err(PrintFault::Cut) => Status::Memory,
+        Err(PrintFault::Cut) => send_cut(sink),
         Err(PrintFault::Memory) => tell_no_memory(sink),
     }
 }
@@ -76,18 +79,20 @@ pub(crate) fn run_document<K: Sink>(
     options: Options,
     doc: Doc,
     sink: &mut K,
+    shelf: &Shelf,
     kept: &mut Kept,
 ) -> Status
-    requires fits { doc_fits 0 doc ≡ true }
+    requires fits { doc_fits (length shelf.now.bodies.items) doc ≡ true }
     requires built { list_all is_built doc.shape.nodes ≡ true }
     requires version { doc.version < 3 }
     requires fresh { IsFresh kept.old }
-    ensures run { IsRun options doc kept.new }
+    ensures run { IsRun (meanings_of_shelf (λ n. pure (n.body.vtable, n.body.value)) (λ n. single (n.body.vtable, n.body.value)) (λ n. out (n.body.vtable, n.body.value)) shelf.now.bodies.items) options doc kept.new }
     ensures ended { IsEnded (report_ending options kept.new) result (K.written sink.old) (K.written sink.new) }
+    ensures sent { (result ≡ Status.Write → ⊥) → K.is_sent sink.new ≡ true }
     ensures whole { result ≡ Status.Done → IsWhole doc kept.new }
     ensures cause { result ≡ Status.Write → Rose (K.faults sink.old) (K.faults sink.new) (K.is_full sink.new) }
 {
-    match run_kept(alloc, options, doc, kept) {
+    match run_kept(alloc, options, doc, shelf, kept) {
         Ending::Settled(nodes) => print_kept(alloc, kept, &nodes, options, sink),
         Ending::Limit(nodes) => print_kept(alloc, kept, &nodes, options, sink),
         Ending::Memory => tell_no_memory(sink),

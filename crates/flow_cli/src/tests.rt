@@ -1,7 +1,16 @@
-use crate::{nothing_kept, plain_top};
-use flow_doc::Kept;
+ghost use Rattle.std.specs.Prelude.{◌≡◌, IfOk, None, [], ◌∷◌};
+ghost use Rattle.flow_print.specs.Report.{MayBePrinted};
+ghost use Rattle.flow_print.specs.Replayed.{IsBuilt};
+
+use crate::plain_top;
+use flow_body::{
+    Add, Builtins, CountTo, Echo, FailMemory, Len, Mul, Neg, Pair, Part, SplitEven, builtin_shelf,
+};
+use flow_doc::{Doc, Kept, Lives, Names, Nodes, Scripts};
 use flow_io::{MemSink, MemSource};
-use flow_print::Status;
+use flow_item::{Event, Id, Item, Journal, Land, Link, PutAnswer, Text, Val};
+use flow_print::{Status, print_report};
+use flow_shape::{Edge, Edges, Kind, Kinds, Shape};
 use std::alloc::Global;
 use std::process::Abort;
 use std::test::Fail;
@@ -44,8 +53,21 @@ fn call(
     sink: &mut MemSink,
 ) -> Result<(Status, Kept), Fail> {
     let words = words_of(alloc, line)?;
-    let mut kept = nothing_kept(alloc);
-    let status = plain_top(alloc, words.as_slice(), source, sink, &mut kept);
+    let bodies = Builtins {
+        add: Box::new(alloc, Add)?,
+        mul: Box::new(alloc, Mul)?,
+        neg: Box::new(alloc, Neg)?,
+        len: Box::new(alloc, Len)?,
+        part: Box::new(alloc, Part)?,
+        pair: Box::new(alloc, Pair)?,
+        echo: Box::new(alloc, Echo)?,
+        split_even: Box::new(alloc, SplitEven)?,
+        count_to: Box::new(alloc, CountTo)?,
+        fail_memory: Box::new(alloc, FailMemory)?,
+    };
+    let shelf = builtin_shelf(alloc, bodies).ok().ok_or("a shelf")?;
+    let mut kept = Kept::new(alloc);
+    let status = plain_top(alloc, words.as_slice(), source, sink, &shelf, &mut kept);
     Ok((status, kept))
 }
 
@@ -269,4 +291,105 @@ fn what_is_kept(rt: HostRuntime) -> Result<(), Fail> {
     assert_eq!(rt; kept.journal.len(), 0);
     assert_eq!(rt; source.at, source.bytes.len());
     Ok(())
+}
+
+fn name(alloc: Global, text: &str) -> Result<Text, Fail> {
+    Ok(Text::of(alloc, text).ok().ok_or("a name")?)
+}
+
+// A queue that gives its item to a second one, which is shown.
+fn two_queues(alloc: Global) -> Result<Doc, Fail>
+    ensures { IfOk result (λ doc. doc.shape ≡ record { nodes = Kind.Queue None ∷ Kind.Queue None ∷ []; edges = record { from = 0; out = 0; to = 1; port = 0 } ∷ [] }) }
+{
+    let mut names = Vec::new(alloc);
+    names.push(name(alloc, "a")?)?;
+    names.push(name(alloc, "b")?)?;
+    let mut nodes = Vec::new(alloc);
+    nodes.push(Kind::Queue { capacity: None })?;
+    nodes.push(Kind::Queue { capacity: None })?;
+    let mut edges = Vec::new(alloc);
+    edges.push(Edge {
+        from: 0,
+        out: 0,
+        to: 1,
+        port: 0,
+    })?;
+    let mut sinks = Vec::new(alloc);
+    sinks.push(1)?;
+    Ok(Doc {
+        version: 1,
+        names: Names::from_vec(names),
+        shape: Shape {
+            nodes: Kinds::from_vec(nodes),
+            edges: Edges::from_vec(edges),
+        },
+        scripts: Scripts::new(alloc),
+        sinks: Nodes::from_vec(sinks),
+    })
+}
+
+// What is kept of a run in which one item is put and given.
+fn one_item_given(alloc: Global) -> Result<Kept, Fail>
+    ensures kept { IfOk result (λ kept. MayBePrinted kept.doc kept.journal) }
+    ensures built { IfOk result (λ kept. IsBuilt kept.doc) }
+{
+    let doc = two_queues(alloc)?;
+    let mut events = Vec::new(alloc);
+    events.push(Event::Put {
+        caller: 0,
+        node: 0,
+        port: 0,
+        tag: 0,
+        val: Val::Int(5),
+        answer: PutAnswer::Accepted {
+            no: 0,
+            land: Land::Kept,
+        },
+    })?;
+    events.push(Event::Leave { caller: 0 })?;
+    events.push(Event::Give {
+        link: Link {
+            edge: 0,
+            from: 0,
+            to: 1,
+            port: 0,
+        },
+        item: Item {
+            id: Id { node: 0, no: 0 },
+            tag: 0,
+            val: Val::Int(5),
+        },
+        no: 0,
+        land: Land::Kept,
+    })?;
+    events.push(Event::Idle { node: 0 })?;
+    events.push(Event::Idle { node: 1 })?;
+    Ok(Kept {
+        doc: Some(doc),
+        journal: Journal::of(events),
+        refused: None,
+        live: Lives::new(alloc),
+    })
+}
+
+const ONE_ITEM: &str =
+    "sinks 1\nb 1\n0 5\ntally 2\na in 1 out 1 eaten 0 lost 0 over 0 kept 0\nb in 1 out 0 eaten 0 lost 0 over 0 kept 1\njournal 5\nput 0 0 0 0 accepted 0 kept 5\nleave 0\ngive 0 0 1 0 0 0 kept 0 5\nidle 0\nidle 1\nevents 5 items 2 refused 0 status 0\n";
+
+// The report by a replay of the journal is that by the nodes that a run hands on.
+#[test]
+fn reports_by_replay(rt: HostRuntime) -> Result<(), Fail> {
+    let alloc = rt.alloc();
+    let kept = one_item_given(alloc)?;
+    let mut sink = sink(alloc);
+    let answer = print_report(alloc, &kept, Status::Done, true, &mut sink);
+    assert!(rt; answer.is_ok());
+    assert_eq!(rt; sink.bytes.as_slice(), ONE_ITEM.as_bytes());
+    expect(
+        &rt,
+        alloc,
+        "plain --journal",
+        "{\"version\":1,\"nodes\":[{\"name\":\"a\",\"kind\":\"queue\"},{\"name\":\"b\",\"kind\":\"queue\"}],\"edges\":[{\"from\":\"a\",\"to\":\"b\"}],\"callers\":[[{\"put\":\"a\",\"val\":5}]],\"sinks\":[\"b\"]}",
+        0,
+        ONE_ITEM,
+    )
 }

@@ -1,5 +1,6 @@
 // The top call.
-ghost use Rattle.std.specs.Prelude.{◌≡◌, ◌⊎◌, None, Some, map, string_bytes};
+ghost use Rattle.std.specs.Prelude.{◌≡◌, ◌⊎◌, None, Some, true, map, string_bytes};
+ghost use Rattle.flow_body.specs.Shelves.{meanings_of_shelf};
 ghost use Rattle.flow_io.specs.Streams.{Rose};
 ghost use Rattle.flow_work.specs.Promises.{IsFresh};
 ghost use Rattle.flow_cli.specs.Words.{plain_options};
@@ -10,24 +11,11 @@ use crate::input::read_input;
 use crate::lines::{refuse, say, tell_no_memory};
 use crate::run::run_document;
 use crate::words::{Options, plain_words};
-use flow_doc::{Kept, Lives};
+use flow_body::Shelf;
+use flow_doc::Kept;
 use flow_io::{Sink, Source};
-use flow_item::Journal;
 use flow_print::{Status, words_text};
 use std::alloc::Global;
-
-/// What is kept before a command.
-pub fn nothing_kept(alloc: Global) -> Kept
-    ensures none { result.doc ≡ None }
-    ensures fresh { IsFresh result }
-{
-    Kept {
-        doc: None,
-        journal: Journal::new(alloc),
-        refused: None,
-        live: Lives::new(alloc),
-    }
-}
 
 // A line of `plain`: reads, runs and writes.
 fn run_line<S: Source, K: Sink>(
@@ -35,46 +23,51 @@ fn run_line<S: Source, K: Sink>(
     options: Options,
     source: &mut S,
     sink: &mut K,
+    shelf: &Shelf,
     kept: &mut Kept,
 ) -> Status
     requires none { kept.old.doc ≡ None }
     requires fresh { IsFresh kept.old }
-    ensures answer { IsAnswer (Some options) (S.left source.old) (S.left source.new) kept.new result (K.written sink.old) (K.written sink.new) }
+    ensures answer { IsAnswer (map (λ b. b.name) shelf.now.bodies.items) (meanings_of_shelf (λ n. pure (n.body.vtable, n.body.value)) (λ n. single (n.body.vtable, n.body.value)) (λ n. out (n.body.vtable, n.body.value)) shelf.now.bodies.items) (Some options) (S.left source.old) (S.left source.new) kept.new result (K.written sink.old) (K.written sink.new) }
+    ensures sent { (result ≡ Status.Write → ⊥) → K.is_sent sink.new ≡ true }
     ensures read { result ≡ Status.Read → Rose (S.faults source.old) (S.faults source.new) (S.is_full source.new) }
     ensures write { result ≡ Status.Write → Rose (K.faults sink.old) (K.faults sink.new) (K.is_full sink.new) }
 {
-    match read_input(alloc, source) {
-        Ok(doc) => run_document(alloc, options, doc, sink, kept),
+    match read_input(alloc, source, shelf) {
+        Ok(doc) => run_document(alloc, options, doc, sink, shelf, kept),
         Err(fault) => refuse(alloc, &fault, sink),
     }
 }
 
 /// Serves the command `plain`: reads the words and the source, runs the document on one thread, keeps what came of it
-/// and writes the report, or the line of the first thing that was wrong. It always returns.
+/// and writes the report, or the line of the first thing that was wrong. Bodies are those of the shelf, by their names.
+/// It always returns, where each body does.
 pub fn plain_top<S: Source, K: Sink>(
     alloc: Global,
     words: &[String],
     source: &mut S,
     sink: &mut K,
+    shelf: &Shelf,
     kept: &mut Kept,
 ) -> Status
     requires none { kept.old.doc ≡ None }
     requires fresh { IsFresh kept.old }
-    ensures document { KeepsDocument (plain_options (map string_bytes words.now)) (S.left source.old) (S.left source.new) kept.new }
-    ensures legal_run { OfRun (plain_options (map string_bytes words.now)) kept.new IsLegalRun }
+    ensures document { KeepsDocument (map (λ b. b.name) shelf.now.bodies.items) (plain_options (map string_bytes words.now)) (S.left source.old) (S.left source.new) kept.new }
+    ensures legal_run { OfRun (plain_options (map string_bytes words.now)) kept.new (IsLegalRun (meanings_of_shelf (λ n. pure (n.body.vtable, n.body.value)) (λ n. single (n.body.vtable, n.body.value)) (λ n. out (n.body.vtable, n.body.value)) shelf.now.bodies.items)) }
     ensures refused { OfRun (plain_options (map string_bytes words.now)) kept.new (IsRefusedLast kept.new.refused) }
     ensures scripts { OfRun (plain_options (map string_bytes words.now)) kept.new FollowsCallers }
     ensures waits { OfRun (plain_options (map string_bytes words.now)) kept.new HeedsCallers }
     ensures throughout { OfRun (plain_options (map string_bytes words.now)) kept.new AgreesThroughout }
-    ensures printed { IsPrinted (plain_options (map string_bytes words.now)) (S.left source.old) (S.left source.new) kept.new result (K.written sink.old) (K.written sink.new) }
-    ensures cause { IsCaused result (plain_options (map string_bytes words.now)) (S.left source.old) (S.left source.new) kept.new }
+    ensures printed { IsPrinted (map (λ b. b.name) shelf.now.bodies.items) (plain_options (map string_bytes words.now)) (S.left source.old) (S.left source.new) kept.new result (K.written sink.old) (K.written sink.new) }
+    ensures sent { (result ≡ Status.Write → ⊥) → K.is_sent sink.new ≡ true }
+    ensures cause { IsCaused (map (λ b. b.name) shelf.now.bodies.items) result (plain_options (map string_bytes words.now)) (S.left source.old) (S.left source.new) kept.new }
     ensures read { result ≡ Status.Read → Rose (S.faults source.old) (S.faults source.new) (S.is_full source.new) }
     ensures write { result ≡ Status.Write → Rose (K.faults sink.old) (K.faults sink.new) (K.is_full sink.new) }
     ensures complete { (Rose (S.faults source.old) (S.faults source.new) (S.is_full source.new) → ⊥) → (Rose (K.faults sink.old) (K.faults sink.new) (K.is_full sink.new) → ⊥)
-        → (result ≡ Status.Memory) ⊎ IsDue (plain_options (map string_bytes words.now)) (S.left source.old) result }
+        → (result ≡ Status.Memory) ⊎ IsDue (map (λ b. b.name) shelf.now.bodies.items) (plain_options (map string_bytes words.now)) (S.left source.old) result }
 {
     match plain_words(alloc, words) {
-        Ok(Some(options)) => run_line(alloc, options, source, sink, kept),
+        Ok(Some(options)) => run_line(alloc, options, source, sink, shelf, kept),
         Ok(None) => say(sink, words_text(), Status::Words),
         Err(_) => tell_no_memory(sink),
     }
