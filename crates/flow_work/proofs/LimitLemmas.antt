@@ -1,6 +1,7 @@
 -- Journals within the limits of a run.
-use Rattle.std.proofs.Common.{◌≡◌, ℕ, ◌<◌, Bool, true, false, ◌||◌, ◌&&◌, nat_eq, nat_lt, nat_le, lt-ltb, eq-eqb, List, [], ◌∷◌, ◌++◌, length, refl, sym, subst, arith}
+use Rattle.std.proofs.Common.{◌≡◌, ℕ, ◌+◌, ◌^◌, ◌≤◌, min, ltb, ◌<◌, Bool, true, false, ◌||◌, ◌&&◌, nat_eq, nat_lt, nat_le, lt-ltb, eq-eqb, List, [], ◌∷◌, ◌++◌, length, refl, sym, ◌∙◌, subst, arith}
 use Rattle.std.proofs.lemmas.List.{length-append}
+use Rattle.std.proofs.lemmas.Bool.{ltb-true}
 use Rattle.std.proofs.lemmas.Bool.Decides.{nat_tests}
 use Rattle.flow_item.specs.declared.event.Event.{Event}
 use Rattle.flow_item.specs.Events.{births_of, births}
@@ -12,10 +13,11 @@ use Rattle.flow_work.specs.Refusals.{meets_limit}
 pub record HasRoom (r : Run) (n : ℕ) : Type 0 where
   pub more : length r.journal ≡ r.events → ⊥
   pub room : 0 < n → births r.journal < r.items
+  pub few : births r.journal + n ≤ 2 ^ 63
 
 -- where no limit is met there is room
-pub below-limit : (r : Run) (n : ℕ) → meets_limit r n ≡ false → HasRoom r n
-below-limit r n h = record { more = λ same. or_right (nat_lt 0 n && nat_le r.items (births r.journal)) (nat_eq (length r.journal) r.events) h (eq-eqb _ _ same); room = λ some. not_full (nat_le r.items (births r.journal)) refl (lt-ltb 0 n some) }
+pub below-limit : (r : Run) (n : ℕ) → meets_limit r n ≡ false → nat_lt (2 ^ 63) (births r.journal + n) ≡ false → HasRoom r n
+below-limit r n h small = record { few = grind (arith, nat_tests); more = λ same. or_right (nat_lt 0 n && nat_le r.items (births r.journal)) (nat_eq (length r.journal) r.events) h (eq-eqb _ _ same); room = λ some. not_full (nat_le r.items (births r.journal)) refl (lt-ltb 0 n some) }
   where
     or_right : (a b : Bool) → (a || b) ≡ false → b ≡ true → ⊥
     or_right true b h g = cc
@@ -52,3 +54,16 @@ within-at-start items events = record { few = omega arith; room = λ before e la
     never : (before : List Event) (e : Event) (later : List Event) → [] ≡ before ++ e ∷ later → ⊥
     never [] e later is = cc
     never (b ∷ bs) e later is = cc
+
+not-less : (n k : ℕ) → ltb k n ≡ false → n ≤ k
+not-less n k h = grind (arith, nat_tests)
+
+-- a count that stands still at its type's end tells whether there are too many
+pub over-seen : (b n made sum : ℕ) → made ≡ min b 18446744073709551615 → sum ≡ min (made + n) 18446744073709551615 → nat_lt 9223372036854775808 sum ≡ nat_lt (2 ^ 63) (b + n)
+over-seen b n made sum made_is sum_is = by_tests (ltb 9223372036854775808 sum) refl (ltb 9223372036854775808 (b + n)) refl
+  where
+    by_tests : (p : Bool) → ltb 9223372036854775808 sum ≡ p → (q : Bool) → ltb 9223372036854775808 (b + n) ≡ q → ltb 9223372036854775808 sum ≡ ltb 9223372036854775808 (b + n)
+    by_tests true h true g = h ∙ sym g
+    by_tests false h false g = h ∙ sym g
+    by_tests true h false g = let big : 9223372036854775808 < sum = ltb-true _ _ h in let low : b + n ≤ 9223372036854775808 = not-less (b + n) 9223372036854775808 g in absurd (omega arith)
+    by_tests false h true g = let big : 9223372036854775808 < b + n = ltb-true _ _ g in let low : sum ≤ 9223372036854775808 = not-less sum 9223372036854775808 h in absurd (omega arith)

@@ -133,7 +133,7 @@ leaves-nothing m shape callers items events es refused can empty none = subst (�
     at_start : Leaves m (run_of shape callers items events []) None N.Memory
     at_start = record {
       runnable = can;
-      journal = record { run = refl; scheduled = refl; within = within-at-start items events };
+      journal = record { run = refl; scheduled = refl; within = within-at-start items events; few = omega arith };
       scripts = λ c steps at. (script shape steps, refl);
       waits = λ c steps k at wait more. absurd (none-behind shape [] steps c k refl more);
       bodies = refl;

@@ -21,7 +21,7 @@ nothing-behind c k h = by_first (ltb c 0) refl (eqb c 0) h
 pub kept-at-start : (shape : Shape) (callers : List (List Step)) (items events : ℕ) (nodes : List Readied) → IsRunnable shape callers → map node_of nodes ≡ nodes_of shape [] → IsKept (record { shape = shape; callers = callers; items = items; events = events; journal = [] }) nodes 0 0 0 None
 kept-at-start shape callers items events nodes can seen = record {
   runnable = can;
-  journal = record { run = refl; scheduled = refl; within = within-at-start items events };
+  journal = record { run = refl; scheduled = refl; within = within-at-start items events; few = omega arith };
   nodes_are = seen;
   births_are = refl;
   running_is = refl;

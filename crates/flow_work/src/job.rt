@@ -9,12 +9,7 @@ use flow_shape::Kind;
 use std::alloc::Global;
 
 /// The messages of a node's body for an item.
-pub fn answer(
-    alloc: Global,
-    shelf: &Shelf,
-    kind: &Kind,
-    item: &Item,
-) -> Result<Outs, NoMemory>
+pub fn answer(alloc: Global, shelf: &Shelf, kind: &Kind, item: &Item) -> Result<Outs, NoMemory>
     requires fits { kind_fits (length shelf.now.bodies.items) kind.now ≡ true }
     requires body { runs_body kind.now ≡ true }
     ensures { IfOk

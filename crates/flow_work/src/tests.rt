@@ -238,18 +238,18 @@ fn only_value(outs: &Outs) -> Option<i64> {
     }
 }
 
-// The end of the first body, whose message is 6.
-fn is_end(e: Option<&Event>) -> bool {
+// The end of an item's body, whose one message has this number and this value.
+fn is_end(e: Option<&Event>, of: u64, number: u64, value: i64) -> bool {
     match e {
         Some(
             Event::End {
                 worker: 0,
                 node: 0,
-                item: 0,
-                first: 1,
+                item,
+                first,
                 outs,
             },
-        ) => only_value(outs) == Some(6),
+        ) => *item == of && *first == number && only_value(outs) == Some(value),
         _ => false,
     }
 }
@@ -328,7 +328,7 @@ fn a_body_runs(rt: HostRuntime) -> Result<(), Fail> {
     assert!(rt; is_put(kept.journal.get(0)));
     assert!(rt; is_leave(kept.journal.get(1)));
     assert!(rt; is_start(kept.journal.get(2)));
-    assert!(rt; is_end(kept.journal.get(3)));
+    assert!(rt; is_end(kept.journal.get(3), 0, 1, 6));
     assert!(rt; kept.refused.is_none());
     Ok(())
 }
@@ -343,7 +343,7 @@ fn a_limit_refuses_the_end(rt: HostRuntime) -> Result<(), Fail> {
     assert!(rt; matches!(answer, Err(Stop::Limit)));
     assert_eq!(rt; kept.journal.len(), 3);
     assert!(rt; is_start(kept.journal.get(2)));
-    assert!(rt; is_end(kept.refused.as_ref()));
+    assert!(rt; is_end(kept.refused.as_ref(), 0, 1, 6));
     Ok(())
 }
 
@@ -369,6 +369,7 @@ fn a_cycle_meets_the_limit(rt: HostRuntime) -> Result<(), Fail> {
     let shelf = shelf_of(alloc, Box::new(alloc, Add)?, Box::new(alloc, FailMemory)?)?;
     let answer = run_plain(alloc, &doc, &shelf, 10, 1000, &mut kept);
     assert!(rt; matches!(answer, Err(Stop::Limit)));
-    assert!(rt; kept.refused.is_some());
+    assert_eq!(rt; kept.journal.len(), 21);
+    assert!(rt; is_end(kept.refused.as_ref(), 6, 7, 9));
     Ok(())
 }

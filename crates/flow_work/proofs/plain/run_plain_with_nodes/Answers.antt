@@ -11,6 +11,9 @@ run_graph-requires-clause-runnable g c = can-run (length c.args.shelf.now.bodies
 pub run_graph-requires-clause-bodies : goal.run_graph-requires-clause-bodies
 run_graph-requires-clause-bodies g c = has-bodies (length c.args.shelf.now.bodies.items) c.args.doc.now c.requires.fits
 
+pub returns-clause-births : goal.returns-clause-births
+returns-clause-births g c = c.run_graph.ensures.leaves.journal.few
+
 pub returns-clause-edges : goal.returns-clause-edges
 returns-clause-edges g c = let left = c.run_graph.ensures.leaves in edges-agree c.args.doc.now.shape c.run_graph.new.kept.journal left.runnable.valid (legal-of (run_of c.args.doc.now.shape c.args.doc.now.scripts c.args.items c.args.events c.run_graph.new.kept.journal) left.journal)
 
