@@ -90,9 +90,8 @@ fn two_queues(alloc: Global) -> Result<Doc, Fail>
     })
 }
 
-// A function with its one edge into a queue, or also one back from it.
-fn function_and_queue(alloc: Global, body: u32, is_cycle: bool) -> Result<Doc, Fail>
-    requires { body < 2 }
+// A function that adds 1, before a queue.
+fn function_into_queue(alloc: Global) -> Result<Doc, Fail>
     ensures fits { IfOk result (λ doc. doc_fits 2 doc ≡ true) }
     ensures built { IfOk result (λ doc. list_all is_built doc.shape.nodes ≡ true) }
     ensures version { IfOk result (λ doc. doc.version < 3) }
@@ -104,7 +103,7 @@ fn function_and_queue(alloc: Global, body: u32, is_cycle: bool) -> Result<Doc, F
     nodes.push(Kind::Function {
         reject: false,
         limit: Some(1),
-        body,
+        body: 0,
         arg: Val::Int(1),
     })?;
     nodes.push(Kind::Queue { capacity: None })?;
@@ -115,14 +114,6 @@ fn function_and_queue(alloc: Global, body: u32, is_cycle: bool) -> Result<Doc, F
         to: 1,
         port: 0,
     })?;
-    if is_cycle {
-        edges.push(Edge {
-            from: 1,
-            out: 0,
-            to: 0,
-            port: 0,
-        })?;
-    }
     let scripts = scripts(alloc)?;
     Ok(Doc {
         version: 1,
@@ -130,6 +121,77 @@ fn function_and_queue(alloc: Global, body: u32, is_cycle: bool) -> Result<Doc, F
         shape: Shape {
             nodes: Kinds::from_vec(nodes),
             edges: Edges::from_vec(edges),
+        },
+        scripts,
+        sinks: Nodes::new(alloc),
+    })
+}
+
+// The same with an edge back from the queue.
+fn function_in_cycle(alloc: Global) -> Result<Doc, Fail>
+    ensures fits { IfOk result (λ doc. doc_fits 2 doc ≡ true) }
+    ensures built { IfOk result (λ doc. list_all is_built doc.shape.nodes ≡ true) }
+    ensures version { IfOk result (λ doc. doc.version < 3) }
+{
+    let mut names = Vec::new(alloc);
+    names.push(name(alloc, "f")?)?;
+    names.push(name(alloc, "q")?)?;
+    let mut nodes = Vec::new(alloc);
+    nodes.push(Kind::Function {
+        reject: false,
+        limit: Some(1),
+        body: 0,
+        arg: Val::Int(1),
+    })?;
+    nodes.push(Kind::Queue { capacity: None })?;
+    let mut edges = Vec::new(alloc);
+    edges.push(Edge {
+        from: 0,
+        out: 0,
+        to: 1,
+        port: 0,
+    })?;
+    edges.push(Edge {
+        from: 1,
+        out: 0,
+        to: 0,
+        port: 0,
+    })?;
+    let scripts = scripts(alloc)?;
+    Ok(Doc {
+        version: 1,
+        names: Names::from_vec(names),
+        shape: Shape {
+            nodes: Kinds::from_vec(nodes),
+            edges: Edges::from_vec(edges),
+        },
+        scripts,
+        sinks: Nodes::new(alloc),
+    })
+}
+
+// A function whose body finds no memory.
+fn function_without_memory(alloc: Global) -> Result<Doc, Fail>
+    ensures fits { IfOk result (λ doc. doc_fits 2 doc ≡ true) }
+    ensures built { IfOk result (λ doc. list_all is_built doc.shape.nodes ≡ true) }
+    ensures version { IfOk result (λ doc. doc.version < 3) }
+{
+    let mut names = Vec::new(alloc);
+    names.push(name(alloc, "f")?)?;
+    let mut nodes = Vec::new(alloc);
+    nodes.push(Kind::Function {
+        reject: false,
+        limit: Some(1),
+        body: 1,
+        arg: Val::Int(1),
+    })?;
+    let scripts = scripts(alloc)?;
+    Ok(Doc {
+        version: 1,
+        names: Names::from_vec(names),
+        shape: Shape {
+            nodes: Kinds::from_vec(nodes),
+            edges: Edges::new(alloc),
         },
         scripts,
         sinks: Nodes::new(alloc),
@@ -319,7 +381,7 @@ fn nodes_are_handed_on(rt: HostRuntime) -> Result<(), Fail> {
 #[test]
 fn a_body_runs(rt: HostRuntime) -> Result<(), Fail> {
     let alloc = rt.alloc();
-    let doc = function_and_queue(alloc, 0, false)?;
+    let doc = function_into_queue(alloc)?;
     let mut kept = nothing_kept(alloc);
     let shelf = shelf_of(alloc, Box::new(alloc, Add)?, Box::new(alloc, FailMemory)?)?;
     let answer = run_plain(alloc, &doc, &shelf, 100, 100, &mut kept);
@@ -336,7 +398,7 @@ fn a_body_runs(rt: HostRuntime) -> Result<(), Fail> {
 #[test]
 fn a_limit_refuses_the_end(rt: HostRuntime) -> Result<(), Fail> {
     let alloc = rt.alloc();
-    let doc = function_and_queue(alloc, 0, false)?;
+    let doc = function_into_queue(alloc)?;
     let mut kept = nothing_kept(alloc);
     let shelf = shelf_of(alloc, Box::new(alloc, Add)?, Box::new(alloc, FailMemory)?)?;
     let answer = run_plain(alloc, &doc, &shelf, 1, 100, &mut kept);
@@ -350,7 +412,7 @@ fn a_limit_refuses_the_end(rt: HostRuntime) -> Result<(), Fail> {
 #[test]
 fn a_body_finds_no_memory(rt: HostRuntime) -> Result<(), Fail> {
     let alloc = rt.alloc();
-    let doc = function_and_queue(alloc, 1, false)?;
+    let doc = function_without_memory(alloc)?;
     let mut kept = nothing_kept(alloc);
     let shelf = shelf_of(alloc, Box::new(alloc, Add)?, Box::new(alloc, FailMemory)?)?;
     let answer = run_plain(alloc, &doc, &shelf, 100, 100, &mut kept);
@@ -364,7 +426,7 @@ fn a_body_finds_no_memory(rt: HostRuntime) -> Result<(), Fail> {
 #[test]
 fn a_cycle_meets_the_limit(rt: HostRuntime) -> Result<(), Fail> {
     let alloc = rt.alloc();
-    let doc = function_and_queue(alloc, 0, true)?;
+    let doc = function_in_cycle(alloc)?;
     let mut kept = nothing_kept(alloc);
     let shelf = shelf_of(alloc, Box::new(alloc, Add)?, Box::new(alloc, FailMemory)?)?;
     let answer = run_plain(alloc, &doc, &shelf, 10, 1000, &mut kept);
