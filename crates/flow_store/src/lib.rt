@@ -16,6 +16,3 @@ pub use fifo::FifoStore;
 pub use one::OneStore;
 pub use rank::RankStore;
 pub use store::{Store, Way};
-
-#[cfg(test)]
-mod tests;
