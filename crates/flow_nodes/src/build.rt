@@ -1,6 +1,7 @@
 ghost use Rattle.std.specs.Prelude.{◌≡◌, ◌+◌, ◌<◌, ◌≤◌, ◌^◌, nat_eq, if◌then◌else◌, true, false, length, map, [], ◌∷◌, ◌++◌, OnOk, IfOk, slice_get, Some, None};
 ghost use Rattle.std.specs.List.{list_all};
 ghost use Rattle.flow_shape.specs.Kinds.{is_keeping, is_limiter, is_discarding};
+ghost use Rattle.flow_shape.specs.Rules.{IsValid};
 ghost use Rattle.flow_shape.specs.Wiring.{at_node};
 ghost use Rattle.flow_shape.specs.Places.{wire_at, wires};
 ghost use Rattle.flow_node.specs.Built.{is_built};
@@ -16,6 +17,7 @@ use std::alloc::Global;
 
 /// All nodes at their start.
 fn nodes_at_start(alloc: Global, shape: &Shape) -> Result<Vec<NodeState>, NoMemory>
+    requires valid { IsValid shape.now }
     requires few { length shape.now.nodes < 2 ^ 32 }
     requires edges { length shape.now.edges < 2 ^ 32 }
     requires built { list_all is_built shape.now.nodes ≡ true }
@@ -30,8 +32,7 @@ fn nodes_at_start(alloc: Global, shape: &Shape) -> Result<Vec<NodeState>, NoMemo
 
 /// The nodes of a run at their start.
 pub fn start(alloc: Global, shape: &Shape) -> Result<Nodes, NoMemory>
-    requires few { length shape.now.nodes < 2 ^ 32 }
-    requires edges { length shape.now.edges < 2 ^ 32 }
+    requires valid { IsValid shape.now }
     requires built { list_all is_built shape.now.nodes ≡ true }
     ensures { IfOk result (λ nodes. map node_of nodes ≡ nodes_of shape.now []) }
 {

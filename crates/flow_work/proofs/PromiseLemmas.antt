@@ -23,23 +23,22 @@ use Rattle.flow_doc.specs.Fits.{doc_fits, kind_fits, step_fits}
 use Rattle.flow_node.specs.Built.{is_built}
 use Rattle.flow_work.specs.declared.plain.Ending.TheVariants as N
 use Rattle.flow_work.specs.declared.run.Refusal.TheVariants as R
-use Rattle.flow_machine.specs.Bodies.{Meanings, kept_from, bodies_kept}
+use Rattle.flow_machine.specs.Bodies.{Meanings, bodies_kept}
 use Rattle.flow_machine.specs.Settled.{IsSettled}
 use Rattle.flow_fates.proofs.OneFateLaw.{one-fate}
 use Rattle.flow_fates.proofs.LineageLaw.{lineages-end}
 use Rattle.flow_fates.proofs.ReservationLaw.{one-reservation}
 use Rattle.flow_fates.proofs.NothingLeft.{nothing-held}
 use Rattle.flow_fates.proofs.BornParents.{parents-are-born}
-use Rattle.flow_work.specs.Promises.{AtEachStart, EdgesAgree, HoldsAgree, NodesWithinLimits, LedgerAddsUp, ItemsHaveOneFate, ItemsHaveLineages, HoldsReserve, NothingIsHeld, ParentsWereBorn, IsRefusedNext}
+use Rattle.flow_work.specs.Promises.{AtEachStart, EdgesAgree, HoldsAgree, NodesWithinLimits, LedgerAddsUp, ItemsHaveOneFate, ItemsHaveLineages, HoldsReserve, NothingIsHeld, ParentsWereBorn, IsRefusedNext, KeepsBodies}
 use Rattle.flow_node.specs.Readied.{Readied}
 use Rattle.flow_work.specs.Plain.{run_of, AreNodesAfter, Leaves}
-use Rattle.flow_work.specs.Tasks.{KeepsScripts, KeepsWaits}
+use Rattle.flow_work.specs.Tasks.{HasBodies, KeepsScripts, KeepsWaits}
 use Rattle.flow_work.specs.Refusals.{IsRefused}
 use Rattle.flow_work.specs.Runs.{Run, is_good_step, IsRunnable, IsJournal}
-use Rattle.flow_work.proofs.BuiltLemmas.{no-body}
 use Rattle.flow_work.proofs.EndLemmas.{none-behind}
 use Rattle.flow_work.proofs.LimitLemmas.{within-at-start}
-use Rattle.flow_work.proofs.RunLemmas.{scheduled-snoc}
+use Rattle.flow_work.proofs.RunLemmas.{scheduled-snoc, bodies-snoc}
 
 -- ---- at each prefix
 
@@ -77,16 +76,6 @@ module _ (shape : Shape) (es : List Event) (valid : IsValid shape) (legal : is_l
   pub parents-were-born : IsSettled shape es → ParentsWereBorn shape es
   parents-were-born settled = parents-are-born shape es valid legal settled
 
--- ---- bodies
-
--- where no kind has a body, none answers
-bodies-kept-from : (m : Meanings) (shape : Shape) (before es : List Event) → list_all is_built shape.nodes ≡ true → kept_from m shape before es ≡ true
-bodies-kept-from m shape before [] built = refl
-bodies-kept-from m shape before (e ∷ es) built = both_true (no-body m shape before e built) (bodies-kept-from m shape (before ++ e ∷ []) es built)
-
-pub bodies-are-kept : (shape : Shape) (es : List Event) → list_all is_built shape.nodes ≡ true → (m : Meanings) → bodies_kept m shape es ≡ true
-bodies-are-kept shape es built m = bodies-kept-from m shape [] es built
-
 -- ---- documents that can be run
 
 good-step : (version : ℕ) (shape : Shape) (s : Step) → version < 3 → step_fits version shape s ≡ true → is_good_step shape s ≡ true
@@ -106,11 +95,11 @@ valid-of shape h = by_fault (first_fault shape) refl h
     by_fault None is h = is
     by_fault (Some fault) is h = cc
 
-pub can-run : (doc : Doc) → doc_fits 0 doc ≡ true → list_all is_built doc.shape.nodes ≡ true → doc.version < 3 → IsRunnable doc.shape doc.scripts
-can-run doc fits built old =
+pub can-run : (bodies : ℕ) (doc : Doc) → doc_fits bodies doc ≡ true → list_all is_built doc.shape.nodes ≡ true → doc.version < 3 → IsRunnable doc.shape doc.scripts
+can-run bodies doc fits built old =
     let shape_fits = is_none (first_fault doc.shape) in
     let names_fit = nat_eq (length doc.names) (length doc.shape.nodes) in
-    let kinds_fit = list_all (kind_fits 0) doc.shape.nodes in
+    let kinds_fit = list_all (kind_fits bodies) doc.shape.nodes in
     let callers_fit = nat_le (length doc.scripts) 64 in
     let steps_fit = list_all (list_all (step_fits doc.version doc.shape)) doc.scripts in
     let to_steps : (shape_fits && names_fit && kinds_fit && callers_fit && steps_fit) ≡ true = and_left _ _ fits in
@@ -125,36 +114,47 @@ can-run doc fits built old =
       few = grind (arith, nat_tests);
     }
 
+-- a shelf that can run the document has the bodies of its nodes
+pub has-bodies : (bodies : ℕ) (doc : Doc) → doc_fits bodies doc ≡ true → HasBodies bodies doc.shape
+has-bodies bodies doc fits =
+    let shape_fits = is_none (first_fault doc.shape) in
+    let names_fit = nat_eq (length doc.names) (length doc.shape.nodes) in
+    and_right (shape_fits && names_fit) _ (and_left _ _ (and_left _ _ (and_left _ _ fits)))
+
 -- ---- refused events, and nothing at all
 
-pub refused-next : (r : Run) (e : Event) → IsJournal r → IsRefused r (R.Limit e) → IsRefusedNext r.shape r.callers r.items r.events r.journal e
-refused-next r e j h = record { refused = record { passes = h.0; follows = h.2 }; scheduled = scheduled-snoc r.shape r.callers r.journal e j.scheduled h.1 }
+pub refused-next : (m : Meanings) (r : Run) (e : Event) → IsJournal r → IsRefused m r (R.Limit e) → IsRefusedNext r.shape r.callers r.items r.events r.journal e
+refused-next m r e j h = record { refused = record { passes = h.0; follows = h.2 }; scheduled = scheduled-snoc r.shape r.callers r.journal e j.scheduled h.1 }
 
 -- where no event was made
-pub leaves-nothing : (shape : Shape) (callers : List (List Step)) (items events : ℕ) (es : List Event) (refused : Option Event) → IsRunnable shape callers → es ≡ [] → refused ≡ None → Leaves (run_of shape callers items events es) refused N.Memory
-leaves-nothing shape callers items events es refused can empty none = subst (λ es. Leaves (run_of shape callers items events es) refused N.Memory) (sym empty) (subst (λ o. Leaves (run_of shape callers items events []) o N.Memory) (sym none) at_start)
+pub leaves-nothing : (m : Meanings) (shape : Shape) (callers : List (List Step)) (items events : ℕ) (es : List Event) (refused : Option Event) → IsRunnable shape callers → es ≡ [] → refused ≡ None → Leaves m (run_of shape callers items events es) refused N.Memory
+leaves-nothing m shape callers items events es refused can empty none = subst (λ es. Leaves m (run_of shape callers items events es) refused N.Memory) (sym empty) (subst (λ o. Leaves m (run_of shape callers items events []) o N.Memory) (sym none) at_start)
   where
-    at_start : Leaves (run_of shape callers items events []) None N.Memory
+    at_start : Leaves m (run_of shape callers items events []) None N.Memory
     at_start = record {
       runnable = can;
       journal = record { run = refl; scheduled = refl; within = within-at-start items events };
       scripts = λ c steps at. (script shape steps, refl);
       waits = λ c steps k at wait more. absurd (none-behind shape [] steps c k refl more);
+      bodies = refl;
       done = _;
       event = _;
+      event_bodies = _;
       limit = refl;
       nodes = _;
     }
 
 -- where a limit refused an event
-pub leaves-limit : (r s : Run) (e : Event) (nodes : List Readied) → r ≡ s → IsRunnable r.shape r.callers → IsJournal r → KeepsScripts r → KeepsWaits r → IsRefused r (R.Limit e) → AreNodesAfter r.shape r.journal nodes → Leaves s (Some e) (N.Limit nodes)
-leaves-limit r s e nodes same can j scripts waits refused after = subst (λ r. Leaves r (Some e) (N.Limit nodes)) same record {
+pub leaves-limit : (m : Meanings) (r s : Run) (e : Event) (nodes : List Readied) → r ≡ s → IsRunnable r.shape r.callers → IsJournal r → KeepsScripts r → KeepsWaits r → KeepsBodies m r.shape r.journal → IsRefused m r (R.Limit e) → AreNodesAfter r.shape r.journal nodes → Leaves m s (Some e) (N.Limit nodes)
+leaves-limit m r s e nodes same can j scripts waits bodies refused after = subst (λ r. Leaves m r (Some e) (N.Limit nodes)) same record {
   runnable = can;
   journal = j;
   scripts = scripts;
   waits = waits;
+  bodies = bodies;
   done = _;
-  event = refused-next r e j refused;
+  event = refused-next m r e j refused;
+  event_bodies = bodies-snoc m r.shape r.journal e bodies refused.3;
   limit = refl;
   nodes = after;
 }

@@ -1,5 +1,5 @@
 -- A run at its start.
-use Rattle.std.proofs.Common.{◌≡◌, ℕ, ◌<◌, ltb, eqb, Bool, true, false, ◌||◌, ◌&&◌, List, [], map, refl, arith}
+use Rattle.std.proofs.Common.{◌≡◌, ℕ, ◌<◌, ltb, eqb, Bool, true, false, ◌||◌, ◌&&◌, None, List, [], map, refl, arith}
 use Rattle.flow_shape.specs.declared.Shape.{Shape}
 use Rattle.flow_node.specs.Readied.{Readied}
 use Rattle.std.proofs.lemmas.Bool.{ltb-true}
@@ -18,12 +18,13 @@ nothing-behind c k h = by_first (ltb c 0) refl (eqb c 0) h
     by_first false e false h = cc
 
 -- a run at its start
-pub kept-at-start : (shape : Shape) (callers : List (List Step)) (items events : ℕ) (nodes : List Readied) → IsRunnable shape callers → map node_of nodes ≡ nodes_of shape [] → IsKept (record { shape = shape; callers = callers; items = items; events = events; journal = [] }) nodes 0 0 0
+pub kept-at-start : (shape : Shape) (callers : List (List Step)) (items events : ℕ) (nodes : List Readied) → IsRunnable shape callers → map node_of nodes ≡ nodes_of shape [] → IsKept (record { shape = shape; callers = callers; items = items; events = events; journal = [] }) nodes 0 0 0 None
 kept-at-start shape callers items events nodes can seen = record {
   runnable = can;
   journal = record { run = refl; scheduled = refl; within = within-at-start items events };
   nodes_are = seen;
   births_are = refl;
+  running_is = refl;
   cursor = record {
     done = λ c steps before at. absurd (omega (arith, before));
     here = λ steps at. record { left = refl; whole = refl; stays = refl; within = omega arith };

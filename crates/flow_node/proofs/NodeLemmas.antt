@@ -1,0 +1,293 @@
+-- What the steps of a part leave of its node.
+use Rattle.std.proofs.Common.{◌≡◌, ℕ, suc, ◌+◌, ◌≤◌, Bool, true, false, not, ◌&&◌, ◌||◌, cond, eqb, Option, Some, None, List, [], ◌∷◌, length, map, drop, refl, sym, ap, ◌∙◌, arith, eq-eqb}
+use Rattle.std.specs.Prelude.{take, is_none, is_some}
+use Rattle.std.specs.Option.{option_map, option_or}
+use Rattle.std.specs.List.{list_all, list_any, find}
+use Rattle.std.proofs.lemmas.Bool.{eqb-true}
+use Rattle.std.proofs.lemmas.List.{length-map}
+use Rattle.flow_item.specs.declared.item.Item.{Item}
+use Rattle.flow_item.specs.declared.item.Msg.{Msg}
+use Rattle.flow_item.specs.declared.event.Event.{Event}
+use Rattle.flow_item.specs.declared.event.Event.TheVariants as E
+use Rattle.flow_item.specs.declared.event.Link.{Link}
+use Rattle.flow_item.specs.declared.event.Land.{Land}
+use Rattle.flow_item.specs.declared.event.Ended.{Ended}
+use Rattle.flow_item.specs.declared.event.Party.{Party}
+use Rattle.flow_item.specs.declared.event.Party.TheVariants.{Node}
+use Rattle.flow_item.specs.declared.event.Parties.{Parties}
+use Rattle.flow_item.specs.Events.{parties_of, both, ends}
+use Rattle.flow_item.specs.Legal.{takes_part, is_second}
+use Rattle.flow_item.specs.Values.{same_item}
+use Rattle.flow_item.specs.Lists.{has, is_empty, first, drop_first, without}
+use Rattle.flow_item.proofs.Tests.{and_left, and_right}
+use Rattle.flow_item.proofs.Equal.{item-equal}
+use Rattle.flow_shape.specs.declared.Kind.TheVariants as K
+use Rattle.flow_shape.specs.declared.Wire.{Wire}
+use Rattle.flow_shape.specs.Kinds.{is_keeping, is_discarding}
+use Rattle.flow_shape.specs.Wiring.{is_some_and}
+use Rattle.flow_shape.specs.Places.{Place, edges_out, over, has_ends, is_wired, wire_in, from_keeps, edge_switches}
+use Rattle.flow_shape.proofs.Valid.{passes-some}
+use Rattle.flow_machine.specs.State as S
+use Rattle.flow_machine.specs.State.{PlacedNode, NodeState, casts_of}
+use Rattle.flow_machine.specs.Offers.{candidates, room, lands, offer_end, end_of_offer, outbox_end}
+use Rattle.flow_machine.specs.Enabled.{allows_at, at_rest, is_numbered, same_bool, may_end}
+use Rattle.flow_machine.specs.Wishes.{offer_wish, shut_wish}
+use Rattle.flow_machine.specs.WishEvents.{given_event, offer_event, ask_event}
+use Rattle.flow_machine.specs.declared.Wish.{Wish}
+use Rattle.flow_machine.specs.declared.Wish.TheVariants as W
+use Rattle.flow_machine.specs.After.{part_after_end, turn_push, turn_pull, turn_if, to_push, to_pull}
+use Rattle.flow_cast.specs.Casts.{RoomyCast}
+use Rattle.flow_node.specs.Built.{is_wire_of, is_reserving, is_plain}
+use Rattle.flow_node.specs.Readied.{stepped, given_from, refused_at, body_ended, landed, runs_bodies}
+use Rattle.flow_node.specs.NodeViews.{running_items}
+use Rattle.flow_node.specs.Kept.{kind_of, part_of, coming_of, place_with, state_with, place_of, state_of, placed, IsKept, Steps}
+use Rattle.flow_node.specs.Parts.{cast_in, value_of}
+use Rattle.flow_node.specs.declared.base.Base.{Base}
+use Rattle.flow_node.specs.declared.part.Part.{Part}
+use Rattle.flow_node.specs.declared.part.Part.TheVariants as P
+use Rattle.flow_node.proofs.HoldLemmas.{takes-none}
+
+-- ---- parts of any kind
+
+pub part-plain : (p : Part) → is_plain (part_of p) ≡ true
+part-plain (P.Queue q) = refl
+part-plain (P.Function f) = refl
+
+pub keeps-none : (p : Part) → is_keeping (kind_of p) ≡ false
+keeps-none (P.Queue q) = refl
+keeps-none (P.Function f) = refl
+
+-- a body that may end runs
+pub ends-running : (p : Part) (i : ℕ) (outs : List Msg) → may_end (kind_of p) (part_of p) i outs ≡ true → list_any (is_numbered i) (running_items (part_of p)) ≡ true
+ends-running (P.Queue q) i outs h = cc
+ends-running (P.Function f) i outs h = and_left (list_any (is_numbered i) f.work.running) true h
+
+pub any-open : {X : Type 0} (p : X → Bool) (xs : List X) → list_any p xs ≡ true → is_empty xs ≡ false
+any-open p [] h = cc
+any-open p (x ∷ xs) h = refl
+
+length-casts : (n number : ℕ) (outs : List Msg) → length (casts_of n number outs) ≡ length outs
+length-casts n number [] = refl
+length-casts n number (m ∷ ms) = ap suc (length-casts n (suc number) ms)
+
+clash : (b : Bool) → b ≡ true → b ≡ false → ⊥
+clash true h g = cc
+clash false h g = cc
+
+-- ---- a step
+
+pub placed-is : (b : Base) (p p' : Part) {outs : List Wire} {part : S.Part} {coming : List RoomyCast} → Steps outs p p' part coming → placed b p' ≡ record { place = place_with b (kind_of p); state = state_with b part }
+placed-is b p p' s = λ i. record { place = place_with b (s.kind i); state = state_with b (s.is i) }
+
+pub kept-step : (b b' : Base) (p p' : Part) {part : S.Part} {coming : List RoomyCast} → IsKept b p → Steps b.outs.items p p' part coming → b'.outs ≡ b.outs → b'.made + length coming ≤ 18446744073709551615 → IsKept b' p'
+kept-step b b' p p' kept s outs fits = record {
+  wires = rw (outs, s.kind) kept.wires;
+  whole = rw outs (s.whole kept.whole);
+  numbers = rw (s.casts) fits;
+}
+
+-- ---- an out edge
+
+same_false : (a b : Bool) → same_bool a b ≡ true → a ≡ b
+same_false true b h = sym h
+same_false false true h = cc
+same_false false false h = refl
+
+find-all : {X : Type 0} (p q : X → Bool) (xs : List X) (x : X) → list_all q xs ≡ true → find p xs ≡ Some x → q x ≡ true
+find-all p q [] x h e = cc
+find-all {X} p q (y ∷ ys) x h e = by_first (p y) e (find-all p q ys x (and_right _ _ h))
+  where
+    by_first : (b : Bool) → cond b (Some y) (find p ys) ≡ Some x → (find p ys ≡ Some x → q x ≡ true) → q x ≡ true
+    by_first true e later =
+        let same : y ≡ x = cc in
+        let first : q y ≡ true = and_left (q y) (list_all q ys) h in
+        rw same at first
+    by_first false e later = later e
+
+-- an edge out of a node has the facts of the node's kind
+record Told (place : Place) (l : Link) : Type 0 where
+  keeps : over place l from_keeps ≡ is_keeping place.kind
+  turns : over place l edge_switches ≡ not (is_discarding place.kind)
+
+told : (place : Place) (l : Link) → list_all (is_wire_of place.kind) place.outs ≡ true → eqb l.from place.node ≡ true → is_wired place l ≡ true → Told place l
+told place l all here wired =
+    let at_outs : is_some_and (has_ends l) (wire_in place.outs l.edge) ≡ true = rw here at wired in
+    let w = passes-some (has_ends l) (wire_in place.outs l.edge) at_outs in
+    let q : is_wire_of place.kind w.0 ≡ true = find-all (λ (w : Wire). eqb w.edge l.edge) (is_wire_of place.kind) place.outs w.0 all w.1 in
+    let kept : w.0.from_keeps ≡ is_keeping place.kind = same_false _ _ (and_left (same_bool w.0.from_keeps (is_keeping place.kind)) (same_bool w.0.switches (not (is_discarding place.kind))) q) in
+    let turned : w.0.switches ≡ not (is_discarding place.kind) = same_false _ _ (and_right (same_bool w.0.from_keeps (is_keeping place.kind)) (same_bool w.0.switches (not (is_discarding place.kind))) q) in
+    record { keeps = rw (here, w.1) kept; turns = rw (here, w.1) turned }
+
+-- where an edge joins two nodes, the other end isn't this node
+other-end : (l : Link) (n : ℕ) → eqb l.from l.to ≡ false → l.from ≡ n → eqb l.to n ≡ false
+other-end l n apart here = rw (← here) (by_back (eqb l.to l.from) refl)
+  where
+    by_back : (d : Bool) → eqb l.to l.from ≡ d → d ≡ false
+    by_back true f = let same : l.to ≡ l.from = eqb-true _ _ f in let twice : eqb l.from l.to ≡ true = eq-eqb _ _ (sym same) in cc
+    by_back false f = refl
+
+-- the second of two nodes isn't where the edge begins
+off_end : (l : Link) (a n : ℕ) → ends l ≡ both (Node a) (Node n) → eqb l.from n ≡ false
+off_end l a n h = by_loop (eqb l.from l.to) refl (ap (λ (p : Parties). p.second) h)
+  where
+    by_loop : (b : Bool) → eqb l.from l.to ≡ b → ◌≡◌ {A = Option Party} (cond (eqb l.from l.to) None (Some (Node l.to))) (Some (Node n)) → eqb l.from n ≡ false
+    by_loop true e second = let never : ◌≡◌ {A = Option Party} None (Some (Node n)) = rw e at second in cc
+    by_loop false e second =
+        let there : ◌≡◌ {A = Option Party} (Some (Node l.to)) (Some (Node n)) = rw e at second in
+        let is : l.to ≡ n = cc in
+        rw is at e
+
+module _ {v : PlacedNode} (b : Base) (p : Part) (view : placed b p ≡ v) (kept : IsKept b p) where
+  -- what an event over an out edge asks of the offers
+  pub give-allowed : (l : Link) (i : Item) (number : ℕ) (land : Land) → eqb l.from b.node ≡ true → allows_at v.place v.state (E.Give l i number land) ≡ true → list_any (same_item i) (candidates v.place v.state l.edge) ≡ true
+  give-allowed l i number land own allowed =
+      let a : allows_at (place_of b p) (state_of b p) (E.Give l i number land) ≡ true = rw (← view) at allowed in
+      rw (← view) (rw own at (and_right (is_wired (place_of b p) l) _ a))
+
+  pub given-after : (l : Link) (i : Item) (number : ℕ) (land : Land) → eqb l.from l.to ≡ false → eqb l.from b.node ≡ true → allows_at v.place v.state (E.Give l i number land) ≡ true → given_from v l.edge i.id.no ≡ stepped v (E.Give l i number land)
+  given-after l i number land apart own allowed =
+      let a : allows_at (place_of b p) (state_of b p) (E.Give l i number land) ≡ true = rw (← view) at allowed in
+      let away : eqb l.to b.node ≡ false = other-end l b.node apart (eqb-true _ _ own) in
+      let t = told (place_of b p) l kept.wires own (and_left _ _ a) in
+      let keeps : over (place_of b p) l from_keeps ≡ false = t.keeps ∙ keeps-none p in
+      let same : b.made + 0 ≡ b.made = omega arith in
+      rw (← view, keeps, own, away, same)
+
+  pub refuse-allowed : (l : Link) (i : ℕ) → eqb l.from b.node ≡ true → allows_at v.place v.state (E.Refuse l i) ≡ true → is_empty (candidates v.place v.state l.edge) ≡ false
+  refuse-allowed l i own allowed =
+      let a : allows_at (place_of b p) (state_of b p) (E.Refuse l i) ≡ true = rw (← view) at allowed in
+      rw (← view) (any-open (is_numbered i) (candidates (place_of b p) (state_of b p) l.edge) (and_right (has b.push.items l.edge) _ (rw own at (and_right (is_wired (place_of b p) l) _ a))))
+
+  pub refused-after : (l : Link) (i : ℕ) → eqb l.from l.to ≡ false → eqb l.from b.node ≡ true → allows_at v.place v.state (E.Refuse l i) ≡ true → refused_at v l.edge ≡ stepped v (E.Refuse l i)
+  refused-after l i apart own allowed =
+      let a : allows_at (place_of b p) (state_of b p) (E.Refuse l i) ≡ true = rw (← view) at allowed in
+      let away : eqb l.to b.node ≡ false = other-end l b.node apart (eqb-true _ _ own) in
+      let t = told (place_of b p) l kept.wires own (and_left _ _ a) in
+      let same : b.made + 0 ≡ b.made = omega arith in
+      let pushed = turned (is_discarding (kind_of p)) l.edge b.push.items in
+      rw (← view, t.turns, own, away, same, pushed)
+    where
+      turned : (d : Bool) (x : ℕ) (xs : List ℕ) → cond d xs (without x xs) ≡ turn_push (turn_if (not d) to_pull) x xs
+      turned true x xs = refl
+      turned false x xs = refl
+
+  -- no event that the second of two nodes meets is of a hold
+  pub met-there : (e : Event) (a : ℕ) → parties_of e ≡ both (Node a) (Node v.place.node) → allows_at v.place v.state e ≡ true → is_reserving e ≡ false
+  met-there (E.Hold l i number) a h allowed =
+      let off : eqb l.from b.node ≡ false = off_end l a b.node (rw (← view) at h) in
+      let there : allows_at (place_of b p) (state_of b p) (E.Hold l i number) ≡ true = rw (← view) at allowed in
+      let to = rw off at (and_right (is_wired (place_of b p) l) _ there) in
+      absurd (clash _ to (takes-none (part_of p) (part-plain p) (place_of b p) (state_of b p) (E.Hold l i number) refl refl))
+  met-there (E.Take l i) a h allowed =
+      let off : eqb l.from b.node ≡ false = off_end l a b.node (rw (← view) at h) in
+      let there : allows_at (place_of b p) (state_of b p) (E.Take l i) ≡ true = rw (← view) at allowed in
+      let to = rw off at (and_right (is_wired (place_of b p) l) _ there) in
+      absurd (clash _ to (takes-none (part_of p) (part-plain p) (place_of b p) (state_of b p) (E.Take l i) refl refl))
+  met-there (E.Free l i) a h allowed =
+      let off : eqb l.from b.node ≡ false = off_end l a b.node (rw (← view) at h) in
+      let there : allows_at (place_of b p) (state_of b p) (E.Free l i) ≡ true = rw (← view) at allowed in
+      let to = rw off at (and_right (is_wired (place_of b p) l) _ there) in
+      absurd (clash _ to (takes-none (part_of p) (part-plain p) (place_of b p) (state_of b p) (E.Free l i) refl refl))
+  met-there e a h allowed = refl
+
+  -- a body ended with the messages of whose casts the node was prepared
+  pub ended-after : (p' : Part) (i number count : ℕ) (outs : List Msg) → map cast_in (coming_of p) ≡ casts_of b.node number outs → count ≡ length (coming_of p)
+      → kind_of p' ≡ kind_of p → part_of p' ≡ part_after_end (place_of b p) (part_of p) i number outs
+      → placed (record b { made = b.made + count; due = true }) p' ≡ body_ended v i number outs
+  ended-after p' i number count outs casts counted kind is =
+      let long : count ≡ length outs = counted ∙ sym (length-map (coming_of p) cast_in) ∙ ap length casts ∙ length-casts b.node number outs in
+      rw (← view, kind, is, long)
+
+  -- a value came over an edge
+  pub landed-after : (l : Link) (i : Item) (number : ℕ) (land : Land) → eqb l.from v.place.node ≡ false → takes_part (parties_of (E.Give l i number land)) (Node v.place.node) ≡ true → landed v l.port i.tag i.val land ≡ stepped v (E.Give l i number land)
+  landed-after l i number land off party =
+      let away : eqb l.from b.node ≡ false = rw (← view) at off in
+      let here : eqb l.to b.node ≡ true = second (eqb l.from l.to) (rw away at (rw (← view) at party)) in
+      let still = stays_empty (is_some_and from_keeps (wire_in b.ins.items l.edge)) l.edge in
+      rw (← view, away, here, still)
+    where
+      second : (same : Bool) → is_second (cond same None (Some (Node l.to))) (Node b.node) ≡ true → eqb l.to b.node ≡ true
+      second true h = cc
+      second false h = h
+
+      stays_empty : (keeps : Bool) (x : ℕ) → turn_pull (turn_if keeps to_push) x [] ≡ []
+      stays_empty true x = refl
+      stays_empty false x = refl
+
+-- ---- offers
+
+pub offer-lands : (b : Base) (p : Part) (l : Link) (i : Item) (land : Land) → room (place_of b p) (state_of b p) l.port i.tag false ≡ lands land → E.Give l i b.made land ≡ offer_event l i (placed b p)
+offer-lands b (P.Queue q) l i land h = ap (given_event l i b.made) (sym h)
+offer-lands b (P.Function f) l i land h = ap (given_event l i b.made) (sym h)
+
+pub ask-offers : (b : Base) (p : Part) (l : Link) (i : Item) → offer_event l i (placed b p) ≡ ask_event l (Some i) (placed b p)
+ask-offers b (P.Queue q) l i = refl
+ask-offers b (P.Function f) l i = refl
+
+pub none-offered : (b : Base) (is : List Item) (xs : List ℕ) → None ≡ first is → offer_wish (place_with b (K.Queue None)) (state_with b (S.store_part record { items = is; lock = None; next = 0 })) xs ≡ None
+none-offered b [] [] h = refl
+none-offered b [] (x ∷ xs) h = none-offered b [] xs h
+none-offered b (i ∷ is) xs h = cc
+
+pub first-given : (items : List Item) (i : Item) → list_any (same_item i) (take 1 items) ≡ true → (drop_first (is_numbered i.id.no) items ≡ drop 1 items) × (option_map value_of (first items) ≡ Some i.val)
+first-given [] i h = cc
+first-given (j ∷ js) i h =
+    let same : i ≡ j = item-equal i j (or_false _ h) in
+    (rw (same, eq-eqb j.id.no j.id.no refl), ap (λ (k : Item). Some k.val) (sym same))
+  where
+    or_false : (b : Bool) → (b || false) ≡ true → b ≡ true
+    or_false true h = refl
+    or_false false h = h
+
+-- ---- rest
+
+none-open : (place : Place) (s : NodeState) (xs : List ℕ) → is_none (offer_wish place s xs) ≡ list_all (λ x. is_empty (candidates place s x)) xs
+none-open place s [] = refl
+none-open place s (x ∷ xs) = by_first (candidates place s x) (none-open place s xs)
+  where
+    by_first : (is : List Item) → is_none (offer_wish place s xs) ≡ list_all (λ x. is_empty (candidates place s x)) xs
+        → is_none (option_or (option_map (λ (i : Item). W.Offer x i.id.no) (first is)) (offer_wish place s xs)) ≡ (is_empty is && list_all (λ x. is_empty (candidates place s x)) xs)
+    by_first [] h = h
+    by_first (i ∷ is) h = refl
+
+none-ended : (f : S.Cast → Option Ended) (o : Option S.Cast) → is_none (shut_wish o (end_of_offer f o)) ≡ is_none (end_of_offer f o)
+none-ended f None = refl
+none-ended f (Some c) = by_end (f c)
+  where
+    by_end : (o : Option Ended) → is_none (shut_wish (Some c) o) ≡ is_none o
+    by_end None = refl
+    by_end (Some e) = refl
+
+and_true : (b : Bool) → (b && true) ≡ b
+and_true true = refl
+and_true false = refl
+
+pub rest-is : (b : Base) (p : Part) → at_rest (place_of b p) (state_of b p) ≡ (is_none (offer_wish (place_of b p) (state_of b p) b.push.items) && is_none (shut_wish (S.offer (part_of p)) (offer_end (place_of b p) (state_of b p))))
+rest-is b (P.Queue q) =
+    let o = none-open (place_of b (P.Queue q)) (state_of b (P.Queue q)) b.push.items in
+    rw (o, and_true, and_true, and_true, and_true, and_true)
+rest-is b (P.Function f) =
+    let o = none-open (place_of b (P.Function f)) (state_of b (P.Function f)) b.push.items in
+    let e = none-ended (λ c. outbox_end (edges_out (place_of b (P.Function f)) c.port) c) (S.offer (part_of (P.Function f))) in
+    rw (o, e, and_true, and_true, and_true, and_true)
+
+pub running-runs : (p : S.Part) (i : ℕ) → list_any (is_numbered i) (running_items p) ≡ true → runs_bodies p ≡ true
+running-runs (S.body_part w) i h = refl
+running-runs p i h = cc
+
+none-is : {X : Type 0} (o : Option X) (r : Bool) → is_some o ≡ not r → is_none o ≡ r
+none-is None true h = refl
+none-is None false h = cc
+none-is (Some x) true h = cc
+none-is (Some x) false h = refl
+
+module _ (b : Base) (p : Part) (w : Option Wish) (r : Bool) (offers : w ≡ offer_wish (place_of b p) (state_of b p) b.push.items) (is : is_some w ≡ not r) where
+  no-offers : is_none (offer_wish (place_of b p) (state_of b p) b.push.items) ≡ r
+  no-offers = ap is_none (sym offers) ∙ none-is w r is
+
+  -- where something is offered, the node isn't at rest
+  pub rest-else : r ≡ false → r ≡ at_rest (place_of b p) (state_of b p)
+  rest-else f = f ∙ sym (rest-is b p ∙ ap (λ (q : Bool). q && is_none (shut_wish (S.offer (part_of p)) (offer_end (place_of b p) (state_of b p)))) (no-offers ∙ f))
+
+  pub rest-then : (e : Option Wish) (q : Bool) → r ≡ true → e ≡ shut_wish (S.offer (part_of p)) (offer_end (place_of b p) (state_of b p)) → is_some e ≡ not q → q ≡ at_rest (place_of b p) (state_of b p)
+  rest-then e q t ends has = sym (rest-is b p ∙ ap (λ (q : Bool). q && is_none (shut_wish (S.offer (part_of p)) (offer_end (place_of b p) (state_of b p)))) (no-offers ∙ t) ∙ ap is_none (sym ends) ∙ none-is e q has)

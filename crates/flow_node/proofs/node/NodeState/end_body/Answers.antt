@@ -1,0 +1,30 @@
+use Rattle.std.proofs.Common.{◌≡◌, true, ◌+◌, ◌≤◌, if◌then◌else◌, [], refl, ap, arith, map}
+use Rattle.flow_machine.specs.State.{casts_of}
+use Rattle.flow_machine.specs.Enabled.{may_end}
+use Rattle.flow_node.specs.Readied.{Readied, runs_bodies}
+use Rattle.flow_node.specs.Parts.{cast_in}
+use Rattle.flow_node.specs.Kept.{kind_of, part_of, coming_of}
+use Rattle.flow_node.proofs.NodeLemmas.{kept-step, ended-after, ends-running, running-runs}
+use Rattle.flow_node.proofs.node.NodeState.end_body.Goals as goal
+
+pub end-requires : goal.end-requires
+end-requires c =
+    let p = c.self.inside.part in
+    let may : may_end (kind_of p) (part_of p) c.args.no c.args.outs.now ≡ true = rw (← c.self.view_is) at c.requires.may in
+    record { running = ends-running p c.args.no c.args.outs.now may }
+
+pub invariant_of-self : goal.invariant_of-self
+invariant_of-self c =
+    let b = c.self.inside.base in
+    let fits : b.made + c.coming-count.result + 0 ≤ 18446744073709551615 = omega (arith, c.self.invariant.numbers, c.coming-count.ensures) in
+    kept-step b record b { made = b.made + c.coming-count.result; due = true } c.self.inside.part c.end.new.self c.self.invariant c.end.ensures.same refl fits
+
+pub returns : goal.returns
+returns c =
+    let b = c.self.inside.base in
+    let p = c.self.inside.part in
+    let may : may_end (kind_of p) (part_of p) c.args.no c.args.outs.now ≡ true = rw (← c.self.view_is) at c.requires.may in
+    let runs : runs_bodies (part_of p) ≡ true = running-runs (part_of p) c.args.no (ends-running p c.args.no c.args.outs.now may) in
+    let casts : map cast_in (coming_of p) ≡ (if runs_bodies (part_of p) then casts_of b.node c.args.number c.args.outs.now else []) = rw (← c.self.view_is) at c.requires.casts in
+    let mine : map cast_in (coming_of p) ≡ casts_of b.node c.args.number c.args.outs.now = rw runs at casts in
+    ended-after b p (ap (λ (r : Readied). r.node) c.self.view_is) c.self.invariant c.end.new.self c.args.no c.args.number c.coming-count.result c.args.outs.now mine c.coming-count.ensures c.end.ensures.same.kind (c.end.ensures.part c.args.number c.args.outs.now mine)

@@ -1,0 +1,74 @@
+-- A node in code, as contracts see it: what all kinds have, and its part.
+use Rattle.std.specs.Prelude.{◌≡◌, ℕ, ◌+◌, ◌≤◌, Bool, true, ◌&&◌, nat_lt, List, None, [], length, vec_len, vec_capacity}
+use Rattle.std.specs.List.{list_all}
+use Rattle.flow_shape.specs.declared.Kind.{Kind}
+use Rattle.flow_shape.specs.declared.Kind.TheVariants as K
+use Rattle.flow_shape.specs.declared.Wire.{Wire}
+use Rattle.flow_shape.specs.Places.{Place}
+use Rattle.flow_machine.specs.State as S
+use Rattle.flow_machine.specs.State.{NodeState, PlacedNode}
+use Rattle.flow_cast.specs.Casts.{RoomyCast}
+use Rattle.flow_node.specs.Built.{is_wire_of}
+use Rattle.flow_node.specs.Parts.{queue_part, function_kind, function_part, are_roomy}
+use Rattle.flow_node.specs.declared.base.Base.{Base}
+use Rattle.flow_node.specs.declared.part.Part.{Part}
+use Rattle.flow_node.specs.declared.part.Part.TheVariants as P
+
+-- ---- a part of any kind
+
+abbrev pub kind_of : Part → Kind
+kind_of (P.Queue q) = K.Queue None
+kind_of (P.Function f) = function_kind f
+
+abbrev pub part_of : Part → S.Part
+part_of (P.Queue q) = queue_part q
+part_of (P.Function f) = function_part f
+
+-- for how many more items there is room
+abbrev pub spare_of : Part → ℕ
+spare_of (P.Queue q) = q.spare
+spare_of (P.Function f) = f.spare
+
+-- the casts that it is prepared with
+abbrev pub coming_of : Part → List RoomyCast
+coming_of (P.Queue q) = []
+coming_of (P.Function f) = f.coming
+
+-- whether each of its casts has room for the edges that it may meet
+abbrev pub is_whole : List Wire → Part → Bool
+is_whole outs (P.Queue q) = true
+is_whole outs (P.Function f) = are_roomy outs f.outbox && are_roomy outs f.coming
+
+-- ---- with what all kinds have
+
+abbrev pub place_with : Base → Kind → Place
+place_with b k = record { node = b.node; kind = k; outs = b.outs.items; ins = b.ins.items }
+
+abbrev pub state_with : Base → S.Part → NodeState
+state_with b p = record { made = b.made; push = b.push.items; pull = []; due = b.due; part = p }
+
+abbrev pub place_of : Base → Part → Place
+place_of b p = place_with b (kind_of p)
+
+abbrev pub state_of : Base → Part → NodeState
+state_of b p = state_with b (part_of p)
+
+abbrev pub placed : Base → Part → PlacedNode
+placed b p = record { place = place_of b p; state = state_of b p }
+
+-- whether there is room for one more edge in push
+abbrev pub has_edge_room : Base → Bool
+has_edge_room b = nat_lt (vec_len b.push) (vec_capacity b.push)
+
+-- the numbers that are left are enough for the casts that it is prepared with, its out edges have the facts of its kind, and its casts have their room
+pub record IsKept (b : Base) (p : Part) : Type 0 where
+  pub wires : list_all (is_wire_of (kind_of p)) b.outs.items ≡ true
+  pub whole : is_whole b.outs.items p ≡ true
+  pub numbers : b.made + length (coming_of p) ≤ 18446744073709551615
+
+-- the part changed so, and no cast has less room than before
+pub record Steps (outs : List Wire) (old new : Part) (part : S.Part) (coming : List RoomyCast) : Type 0 where
+  pub kind : kind_of new ≡ kind_of old
+  pub is : part_of new ≡ part
+  pub casts : coming_of new ≡ coming
+  pub whole : is_whole outs old ≡ true → is_whole outs new ≡ true

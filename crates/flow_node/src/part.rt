@@ -1,0 +1,378 @@
+//! What a node has beside what all kinds have: one variant for each kind.
+
+ghost use Rattle.std.specs.Prelude.{◌≡◌, ℕ, Bool, List, ◌≤◌, ◌+◌, ◌∷◌, [], true, false, Some, None, if◌then◌else◌, not, length, map, min, slice_get, OnOk, OnErr, IfOk};
+ghost use Rattle.std.specs.List.{list_any, list_all, find};
+ghost use Rattle.std.specs.Option.{option_copied};
+ghost use Rattle.flow_item.specs.Lists.{first, is_empty};
+ghost use Rattle.flow_item.specs.Values.{same_item};
+ghost use Rattle.flow_shape.specs.Kinds.{is_discarding};
+ghost use Rattle.flow_shape.specs.Rules.{has_good_limit};
+ghost use Rattle.flow_machine.specs.State.{casts_of, start_part, offer};
+ghost use Rattle.flow_machine.specs.Offers.{candidates, room, lands, offer_end};
+ghost use Rattle.flow_machine.specs.Enabled.{is_numbered};
+ghost use Rattle.flow_machine.specs.After.{part_after_arrival, part_after_give, part_after_refuse, part_after_start, part_after_end, part_after_shut, part_after_cancel};
+ghost use Rattle.flow_machine.specs.OpenParts.{open_bodies, open_holds};
+ghost use Rattle.flow_machine.specs.PrintOrder.{items_in_order};
+ghost use Rattle.flow_machine.specs.Wishes.{offer_wish, shut_wish, start_wish, is_ready};
+ghost use Rattle.flow_node.specs.Built.{is_built};
+ghost use Rattle.flow_node.specs.Readied.{keeps_given, runs_bodies};
+ghost use Rattle.flow_node.specs.Parts.{cast_in};
+ghost use Rattle.flow_node.specs.Kept.{kind_of, part_of, spare_of, coming_of, is_whole, place_of, state_of, Steps};
+ghost use Rattle.flow_node.specs.NodeViews.{present_items, ticket_items, running_items, first_ready, room_seen, is_by_caller};
+ghost use Rattle.flow_shape.specs.declared.Wire.{Wire};
+ghost use Rattle.flow_item.specs.declared.item.Msg.{Msg};
+ghost use Rattle.flow_node.specs.declared.base.Base.{Base};
+
+use crate::base::Base;
+use crate::function::FunctionPart;
+use crate::queue::QueuePart;
+use crate::way::{Bar, Way};
+use flow_item::{Ended, Item, Land, NoMemory, Outs, Val};
+use flow_machine::Wish;
+use flow_shape::Kind;
+use std::alloc::Global;
+
+/// What a node has beside what all kinds have.
+#[derive(Drop)]
+pub(crate) enum Part {
+    Queue(QueuePart),
+    Function(FunctionPart),
+}
+
+impl Part {
+    /// The part of a node of this kind at its start.
+    pub(crate) fn new(alloc: Global, kind: &Kind) -> Result<Part, NoMemory>
+        requires built { is_built kind.now ≡ true }
+        requires limited { has_good_limit kind.now ≡ true }
+        ensures kind { IfOk result (λ p. kind_of p ≡ kind.now) }
+        ensures part { IfOk result (λ p. part_of p ≡ start_part kind.now) }
+        ensures casts { IfOk result (λ p. coming_of p ≡ []) }
+        ensures whole { IfOk result (λ p. (outs : List Wire) → is_whole outs p ≡ true) }
+    {
+        match kind {
+            Kind::Queue { .. } => Ok(Part::Queue(QueuePart::new(alloc))),
+            Kind::Function {
+                limit,
+                body,
+                arg,
+                ..
+            } => Ok(Part::Function(FunctionPart::new(alloc, *limit, *body, arg.copy(alloc)?))),
+            _ => unreachable!(),
+        }
+    }
+
+    /// The first item that may go over an out edge.
+    pub(crate) fn candidate(&self, base: &Base, edge: u32) -> Option<&Item>
+        ensures { option_copied result
+            ≡ first (candidates (place_of base.now self.now) (state_of base.now self.now) edge) }
+    {
+        match self {
+            Part::Queue(queue) => queue.front(),
+            Part::Function(function) => function.candidate(base, edge),
+        }
+    }
+
+    /// The item of this number, where it may go over an out edge.
+    pub(crate) fn offered(&self, base: &Base, edge: u32, no: u64) -> Option<&Item>
+        ensures { option_copied result
+            ≡ find (is_numbered no) (candidates (place_of base.now self.now) (state_of base.now self.now) edge) }
+    {
+        match self {
+            Part::Queue(queue) => queue.offered(no),
+            Part::Function(function) => function.offered(base, edge, no),
+        }
+    }
+
+    /// The item of this number that is there, or that a hand is of.
+    pub(crate) fn item(&self, no: u64) -> Option<&Item>
+        ensures { option_copied result ≡ find (is_numbered no) (present_items (part_of self.now)) }
+    {
+        match self {
+            Part::Queue(queue) => queue.item(no),
+            Part::Function(function) => function.item(no),
+        }
+    }
+
+    /// The item with which the first ready body starts.
+    pub(crate) fn first_ready(&self) -> Option<&Item>
+        ensures { option_copied result ≡ first_ready (part_of self.now) }
+    {
+        match self {
+            Part::Queue(_) => None,
+            Part::Function(function) => function.first_ready(),
+        }
+    }
+
+    /// The running item of this number.
+    pub(crate) fn running(&self, no: u64) -> Option<&Item>
+        ensures { option_copied result ≡ find (is_numbered no) (running_items (part_of self.now)) }
+    {
+        match self {
+            Part::Queue(_) => None,
+            Part::Function(function) => function.running(no),
+        }
+    }
+
+    /// The item of open ticket k, the oldest first.
+    pub(crate) fn ticket(&self, k: usize) -> Option<&Item>
+        ensures { option_copied result ≡ slice_get (ticket_items (part_of self.now)) k }
+    {
+        match self {
+            Part::Queue(_) => None,
+            Part::Function(function) => function.ticket(k),
+        }
+    }
+
+    /// How an item with this tag would land at an input port, or what bars it.
+    pub(crate) fn room(&self, base: &Base, port: u32, tag: u64, way: Way) -> Result<Land, Bar>
+        ensures { room_seen result
+            ≡ room (place_of base.now self.now) (state_of base.now self.now) port tag (is_by_caller way) }
+    {
+        let _ = base;
+        let _ = (port, tag, way);
+        match self {
+            Part::Queue(_) => Ok(Land::Kept),
+            Part::Function(function) => Ok(function.land()),
+        }
+    }
+
+    /// How an item that an edge brings lands.
+    pub(crate) fn land(&self) -> Land
+        ensures { (base : Base) → (port tag : ℕ) → (by_caller : Bool) → room (place_of base self.now) (state_of base self.now) port tag by_caller ≡ lands result }
+    {
+        match self {
+            Part::Queue(_) => Land::Kept,
+            Part::Function(function) => function.land(),
+        }
+    }
+
+    /// Whether an item that the node gives stays there.
+    pub(crate) fn keeps_given(&self) -> bool
+        ensures { result ≡ keeps_given (part_of self.now) }
+    {
+        match self {
+            Part::Queue(_) => false,
+            Part::Function(_) => true,
+        }
+    }
+
+    /// How many casts it is prepared with.
+    pub(crate) fn coming(&self) -> usize
+        ensures { result ≡ length (coming_of self.now) }
+    {
+        match self {
+            Part::Queue(_) => 0,
+            Part::Function(function) => function.coming(),
+        }
+    }
+
+    /// The number of ready and running bodies, of tickets, and of holds on its items.
+    pub(crate) fn open_parts(&self, base: &Base) -> u64
+        requires whole { is_whole base.now.outs.items self.now ≡ true }
+        ensures { result ≡ open_bodies (part_of self.now) + open_holds (part_of self.now) }
+    {
+        let _ = base;
+        match self {
+            Part::Queue(_) => 0,
+            Part::Function(function) => function.open_bodies(),
+        }
+    }
+
+    /// Whether a body is ready.
+    pub(crate) fn is_ready(&self) -> bool
+        ensures { result ≡ is_ready (part_of self.now) }
+    {
+        match self {
+            Part::Queue(_) => false,
+            Part::Function(function) => function.is_ready(),
+        }
+    }
+
+    /// The first offer over an edge in push.
+    pub(crate) fn offer_wish(&self, base: &Base) -> Option<Wish>
+        ensures { result
+            ≡ offer_wish (place_of base.now self.now) (state_of base.now self.now) base.now.push.items }
+    {
+        match self {
+            Part::Queue(queue) => queue.offer_wish(base),
+            Part::Function(function) => function.offer_wish(base),
+        }
+    }
+
+    /// The end of the cast on offer, where it may end.
+    pub(crate) fn shut_wish(&self, base: &Base) -> Option<Wish>
+        ensures { result
+            ≡ shut_wish (offer (part_of self.now)) (offer_end (place_of base.now self.now) (state_of base.now self.now)) }
+    {
+        match self {
+            Part::Queue(_) => None,
+            Part::Function(function) => function.shut_wish(base),
+        }
+    }
+
+    /// The start of a ready body.
+    pub(crate) fn start_wish(&self) -> Option<Wish>
+        ensures { result ≡ start_wish (part_of self.now) }
+    {
+        match self {
+            Part::Queue(_) => None,
+            Part::Function(function) => function.start_wish(),
+        }
+    }
+
+    /// How many items there are to print.
+    pub(crate) fn len(&self) -> usize
+        ensures { result ≡ length (items_in_order (kind_of self.now) (part_of self.now)) }
+    {
+        match self {
+            Part::Queue(queue) => queue.len(),
+            Part::Function(_) => 0,
+        }
+    }
+
+    /// The item at this place in print order.
+    pub(crate) fn at(&self, k: usize) -> Option<&Item>
+        ensures { option_copied result
+            ≡ slice_get (items_in_order (kind_of self.now) (part_of self.now)) k }
+    {
+        match self {
+            Part::Queue(queue) => queue.at(k),
+            Part::Function(_) => None,
+        }
+    }
+}
+
+impl Part {
+    /// Makes room for one more item.
+    pub(crate) fn reserve(&mut self) -> Result<(), NoMemory>
+        ensures same { (outs : List Wire) → Steps outs self.old self.new (part_of self.old) (coming_of self.old) }
+        ensures ok { OnOk result (1 ≤ spare_of self.new) }
+    {
+        match self {
+            Part::Queue(queue) => queue.reserve(),
+            Part::Function(function) => function.reserve(),
+        }
+    }
+
+    /// Gives up the casts that it is prepared with.
+    pub(crate) fn clear(&mut self)
+        ensures { (outs : List Wire) → Steps outs self.old self.new (part_of self.old) [] }
+    {
+        match self {
+            Part::Queue(_) => {}
+            Part::Function(function) => function.clear(),
+        }
+    }
+
+    /// Makes the casts of messages, which are numbered from a number on: none where the kind runs no bodies, and after a refusal.
+    pub(crate) fn expect(&mut self, base: &Base, number: u64, outs: &Outs) -> Result<(), NoMemory>
+        requires { number + length outs.now ≤ 18446744073709551615 }
+        ensures same { Steps base.now.outs.items self.old self.new (part_of self.old) (coming_of self.new) }
+        ensures few { length (coming_of self.new) ≤ length outs.now }
+        ensures ok { OnOk
+            result
+            (map cast_in (coming_of self.new) ≡ (if runs_bodies (part_of self.old) then casts_of base.now.node number outs.now else [])) }
+    {
+        match self {
+            Part::Queue(_) => Ok(()),
+            Part::Function(function) => function.expect(base, number, outs),
+        }
+    }
+
+    /// An item comes to a port.
+    pub(crate) fn arrive(&mut self, base: &Base, port: u32, item: Item)
+        requires { 1 ≤ spare_of self.old }
+        ensures { Steps base.now.outs.items self.old self.new (part_after_arrival (place_of base.now self.old) base.now.push.items (part_of self.old) port item) (coming_of self.old) }
+    {
+        let _ = base;
+        let _ = port;
+        match self {
+            Part::Queue(queue) => queue.arrive(item),
+            Part::Function(function) => function.arrive(item),
+        }
+    }
+
+    /// The item goes over an out edge: its value, where it leaves the node.
+    pub(crate) fn give(&mut self, base: &Base, edge: u32, item: &Item) -> Option<Val>
+        requires whole { is_whole base.now.outs.items self.old ≡ true }
+        requires allowed { list_any (same_item item.now) (candidates (place_of base.now self.old) (state_of base.now self.old) edge) ≡ true }
+        ensures part { Steps base.now.outs.items self.old self.new (part_after_give (kind_of self.old) (part_of self.old) edge item.now.id.no) (coming_of self.old) }
+        ensures value { result ≡ (if keeps_given (part_of self.old) then None else Some item.now.val) }
+    {
+        let _ = item;
+        match self {
+            Part::Queue(queue) => queue.depart(),
+            Part::Function(function) => {
+                function.give(base, edge);
+                None
+            }
+        }
+    }
+
+    /// An out edge refused an item that may go over it.
+    pub(crate) fn refuse(&mut self, base: &Base, edge: u32)
+        requires whole { is_whole base.now.outs.items self.old ≡ true }
+        requires open { is_empty (candidates (place_of base.now self.old) (state_of base.now self.old) edge) ≡ false }
+        ensures { Steps base.now.outs.items self.old self.new (part_after_refuse (not (is_discarding (kind_of self.old))) (part_of self.old) edge) (coming_of self.old) }
+    {
+        match self {
+            Part::Queue(_) => {}
+            Part::Function(function) => function.refuse(base, edge),
+        }
+    }
+
+    /// Whether a refusal turns an out edge to pull.
+    pub(crate) fn switches(&self) -> bool
+        ensures { result ≡ not (is_discarding (kind_of self.now)) }
+    {
+        match self {
+            Part::Queue(_) => true,
+            Part::Function(_) => false,
+        }
+    }
+
+    /// The first ready body starts.
+    pub(crate) fn start(&mut self)
+        ensures { (outs : List Wire) → Steps outs self.old self.new (part_after_start (part_of self.old)) (coming_of self.old) }
+    {
+        match self {
+            Part::Queue(_) => {}
+            Part::Function(function) => function.start(),
+        }
+    }
+
+    /// The body of a running item ends with the messages of whose casts it is prepared.
+    pub(crate) fn end(&mut self, base: &Base, no: u64)
+        requires running { list_any (is_numbered no) (running_items (part_of self.old)) ≡ true }
+        ensures same { Steps base.now.outs.items self.old self.new (part_of self.new) [] }
+        ensures part { (number : ℕ) → (outs : List Msg) → map cast_in (coming_of self.old) ≡ casts_of base.now.node number outs
+            → part_of self.new ≡ part_after_end (place_of base.now self.old) (part_of self.old) no number outs }
+    {
+        let _ = base;
+        match self {
+            Part::Queue(_) => unreachable!(),
+            Part::Function(function) => function.end(no),
+        }
+    }
+
+    /// The cast on offer ends so.
+    pub(crate) fn shut(&mut self, ended: Ended)
+        ensures { (outs : List Wire) → Steps outs self.old self.new (part_after_shut (part_of self.old) ended) (coming_of self.old) }
+    {
+        let _ = ended;
+        match self {
+            Part::Queue(_) => {}
+            Part::Function(function) => function.shut(),
+        }
+    }
+
+    /// What has not begun is dropped.
+    pub(crate) fn cancel(&mut self)
+        ensures { (outs : List Wire) → Steps outs self.old self.new (part_after_cancel (part_of self.old)) (coming_of self.old) }
+    {
+        match self {
+            Part::Queue(_) => {}
+            Part::Function(function) => function.cancel(),
+        }
+    }
+}
