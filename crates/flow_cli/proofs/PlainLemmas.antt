@@ -34,7 +34,6 @@ use Rattle.flow_cli.specs.declared.input.InputFault.{InputFault}
 use Rattle.flow_cli.specs.declared.input.InputFault.TheVariants as I
 use Rattle.flow_cli.specs.Plain.{IsRead, IsRefused, KeepsDocument, OfRun, IsLegalRun, IsRefusedLast, FollowsCallers, HeedsCallers, AgreesThroughout, IsDone, HasDone, HasStopped, IsCaused, IsDueTo, IsDue, IsEnding, IsPrinted}
 use Rattle.flow_cli.specs.Steps.{Reads, IsSaid, IsEnded, fault_ending, report_ending, IsRun, IsAnswer, IsWhole}
-use Rattle.flow_cli.proofs.Births.{few-births}
 use Rattle.flow_cli.proofs.Built.{too_long, never_long}
 
 length_both : (xs ys : List ℕ) → length (xs ++ ys) ≡ length xs + length ys
@@ -111,26 +110,11 @@ no_fault : (o : Option ShapeFault) → is_none o ≡ true → o ≡ None
 no_fault None h = refl
 no_fault (Some fault) h = cc
 
-none_fit : (ks : List Kind) → list_all is_built ks ≡ true → list_all (kind_fits 0) ks ≡ true
-none_fit [] h = refl
-none_fit (k ∷ ks) h = both_true (one k (and_left _ _ h)) (none_fit ks (and_right _ _ h))
-  where
-    one : (k : Kind) → is_built k ≡ true → kind_fits 0 k ≡ true
-    one (K.Queue c) h = refl
-    one k h = let never : ⊥ = cc in absurd never
-
--- a document without bodies can be run with no shelf
-pub fits_none : (n : ℕ) (doc : Doc) → doc_fits n doc ≡ true → list_all is_built doc.shape.nodes ≡ true → doc_fits 0 doc ≡ true
-fits_none n doc fits built =
-    let few = and_left _ _ (and_left _ _ fits) in
-    both_true (both_true (both_true (both_true (and_left _ _ (and_left _ _ few)) (none_fit doc.shape.nodes built)) (and_right _ _ few)) (and_right _ _ (and_left _ _ fits))) (and_right _ _ fits)
-
 -- what a run keeps may be printed
-pub may_print : (meanings : Meanings) (bodies : ℕ) (options : Options) (doc : Doc) (kept : Kept) → doc_fits bodies doc ≡ true → list_all is_built doc.shape.nodes ≡ true → IsRun meanings options doc kept → MayBePrinted kept.doc kept.journal
-may_print meanings bodies options doc kept fits built run =
+pub may_print : (meanings : Meanings) (bodies : ℕ) (options : Options) (doc : Doc) (kept : Kept) → doc_fits bodies doc ≡ true → births kept.journal ≤ 2 ^ 63 → IsRun meanings options doc kept → MayBePrinted kept.doc kept.journal
+may_print meanings bodies options doc kept fits few run =
     let valid : IsValid doc.shape = no_fault (first_fault doc.shape) (and_left _ _ (and_left _ _ (and_left _ _ (and_left _ _ (and_left _ _ fits))))) in
     let legal : is_legal doc.shape kept.journal ≡ true = and_left (is_legal doc.shape kept.journal) _ run.legal.legal in
-    let few : births kept.journal ≤ 2 ^ 63 = omega (arith, few-births doc.shape kept.journal built legal, run.legal.limits.few) in
     rw run.document (valid, legal, few)
 
 -- want of memory has one line, whoever tells it
@@ -328,7 +312,7 @@ answers_run shelf meanings before after options doc kept status old new read run
     live = run.live;
   };
   legal = λ o d a e. of_run (IsLegalRun meanings) o d a e run.legal;
-  refused = λ o d a e. of_run (IsRefusedLast kept.refused) o d a e run.refused;
+  refused = λ o d a e. of_run (IsRefusedLast meanings kept.refused) o d a e run.refused;
   scripts = λ o d a e. of_run FollowsCallers o d a e run.scripts;
   waits = λ o d a e. of_run HeedsCallers o d a e run.waits;
   throughout = λ o d a e. of_run AgreesThroughout o d a e run.throughout;

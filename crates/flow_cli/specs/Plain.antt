@@ -1,5 +1,5 @@
 -- What the command `plain` promises.
-use Rattle.std.specs.Prelude.{◌≡◌, ◌≤◌, ◌⊎◌, ⊤, ℕ, Bool, true, false, is_some, IfSome, Option, Some, None, Result, Ok, Err, List, [], length}
+use Rattle.std.specs.Prelude.{◌≡◌, ◌≤◌, ◌⊎◌, ⊤, ℕ, Bool, true, false, is_some, IfSome, Option, Some, None, Result, Ok, Err, List, [], ◌∷◌, ◌++◌, length}
 use Rattle.flow_item.specs.declared.event.Event.{Event}
 use Rattle.flow_machine.specs.Bodies.{Meanings}
 use Rattle.flow_machine.specs.Machine.{is_run}
@@ -60,9 +60,9 @@ pub record IsLegalRun (meanings : Meanings) (options : Options) (doc : Doc) (es 
   pub bodies : KeepsBodies meanings doc.shape es
   pub limits : IsWithinLimits options.items most_events es
 
--- right after the journal the event may come next, and passes a limit
-abbrev pub IsRefusedLast : Option Event → Options → Doc → List Event → Type 0
-IsRefusedLast refused options doc es = IfSome refused (IsRefusedNext doc.shape doc.scripts options.items most_events es)
+-- right after the journal the event may come next, passes a limit, and keeps the bodies
+abbrev pub IsRefusedLast : Meanings → Option Event → Options → Doc → List Event → Type 0
+IsRefusedLast meanings refused options doc es = IfSome refused (λ e. IsRefusedNext doc.shape doc.scripts options.items most_events es e × KeepsBodies meanings doc.shape (es ++ e ∷ []))
 
 abbrev pub FollowsCallers : Options → Doc → List Event → Type 0
 FollowsCallers options doc es = FollowsScripts doc.shape doc.scripts es

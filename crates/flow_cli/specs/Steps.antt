@@ -46,7 +46,7 @@ pub record IsRun (meanings : Meanings) (options : Options) (doc : Doc) (kept : K
   pub document : kept.doc ≡ Some doc
   pub live : kept.live ≡ []
   pub legal : IsLegalRun meanings options doc kept.journal
-  pub refused : IsRefusedLast kept.refused options doc kept.journal
+  pub refused : IsRefusedLast meanings kept.refused options doc kept.journal
   pub scripts : FollowsCallers options doc kept.journal
   pub waits : HeedsCallers options doc kept.journal
   pub throughout : AgreesThroughout options doc kept.journal
@@ -55,7 +55,7 @@ pub record IsRun (meanings : Meanings) (options : Options) (doc : Doc) (kept : K
 pub record IsAnswer (shelf : List (List ℕ)) (meanings : Meanings) (asked : Option Options) (before after : Option (List ℕ)) (kept : Kept) (status : Status) (old new : Option (List ℕ)) : Type 0 where
   pub document : KeepsDocument shelf asked before after kept
   pub legal : OfRun asked kept (IsLegalRun meanings)
-  pub refused : OfRun asked kept (IsRefusedLast kept.refused)
+  pub refused : OfRun asked kept (IsRefusedLast meanings kept.refused)
   pub scripts : OfRun asked kept FollowsCallers
   pub waits : OfRun asked kept HeedsCallers
   pub throughout : OfRun asked kept AgreesThroughout

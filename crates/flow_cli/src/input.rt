@@ -4,13 +4,13 @@ ghost use Rattle.flow_io.specs.Streams.{Rose};
 ghost use Rattle.flow_cli.specs.Steps.{Reads};
 
 use flow_body::Shelf;
-use flow_doc::{Doc, DocFault, Offered, QUEUES};
+use flow_doc::{BODIES, Doc, DocFault, Offered};
 use flow_io::{ReadFault, Source, read_all};
 use flow_read::read_doc;
 use std::alloc::Global;
 
 /// The words that documents may use so far: those of the kinds that there is code for.
-pub const OFFERED: Offered = QUEUES;
+pub const OFFERED: Offered = BODIES;
 
 /// Why a source gives no document.
 #[derive(Debug, Drop)]

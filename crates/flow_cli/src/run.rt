@@ -1,9 +1,10 @@
 // The run of a document, and its report.
-ghost use Rattle.std.specs.Prelude.{◌≡◌, ◌<◌, true, is_some, length, OnOk};
+ghost use Rattle.std.specs.Prelude.{◌≡◌, ◌<◌, ◌≤◌, ◌^◌, true, is_some, length, OnOk};
 ghost use Rattle.std.specs.List.{list_all};
 ghost use Rattle.flow_body.specs.Shelves.{meanings_of_shelf};
 ghost use Rattle.flow_doc.specs.Fits.{doc_fits};
 ghost use Rattle.flow_io.specs.Streams.{Rose};
+ghost use Rattle.flow_item.specs.Events.{births};
 ghost use Rattle.flow_node.specs.Built.{is_built};
 ghost use Rattle.flow_print.specs.Replayed.{AreStates};
 ghost use Rattle.flow_print.specs.Report.{run_status, MayBePrinted};
@@ -33,10 +34,11 @@ fn run_kept(alloc: Global, options: Options, doc: Doc, shelf: &Shelf, kept: &mut
     requires fresh { IsFresh kept.old }
     ensures run { IsRun (meanings_of_shelf (λ n. pure (n.body.vtable, n.body.value)) (λ n. single (n.body.vtable, n.body.value)) (λ n. out (n.body.vtable, n.body.value)) shelf.now.bodies.items) options doc kept.new }
     ensures whole { OnOk (outcome_of result) (IsWhole doc kept.new) }
+    ensures few { births kept.new.journal ≤ 2 ^ 63 }
     ensures limit { is_some kept.new.refused ≡ is_limit (outcome_of result) }
     ensures nodes { HandsOn doc.shape kept.new.journal result }
 {
-    let ending = run_plain_with_nodes(alloc, &doc, options.items, MOST_EVENTS, kept);
+    let ending = run_plain_with_nodes(alloc, &doc, shelf, options.items, MOST_EVENTS, kept);
     kept.doc = Some(doc);
     ending
 }

@@ -26,7 +26,7 @@ fn words_of(alloc: Global, line: &str) -> Result<Vec<String>, Fail> {
     Ok(words)
 }
 
-fn source(alloc: Global, input: &str) -> Result<MemSource, Fail> {
+pub(crate) fn source(alloc: Global, input: &str) -> Result<MemSource, Fail> {
     Ok(MemSource {
         bytes: Vec::from_slice(alloc, input.as_bytes())?,
         at: 0,
@@ -36,7 +36,7 @@ fn source(alloc: Global, input: &str) -> Result<MemSource, Fail> {
     })
 }
 
-fn sink(alloc: Global) -> MemSink {
+pub(crate) fn sink(alloc: Global) -> MemSink {
     MemSink {
         bytes: Vec::new(alloc),
         calls: 0,
@@ -46,7 +46,7 @@ fn sink(alloc: Global) -> MemSink {
     }
 }
 
-fn call(
+pub(crate) fn call(
     alloc: Global,
     line: &str,
     source: &mut MemSource,
@@ -71,7 +71,7 @@ fn call(
     Ok((status, kept))
 }
 
-fn expect(
+pub(crate) fn expect(
     rt: &impl Abort,
     alloc: Global,
     line: &str,

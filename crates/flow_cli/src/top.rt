@@ -54,7 +54,7 @@ pub fn plain_top<S: Source, K: Sink>(
     requires fresh { IsFresh kept.old }
     ensures document { KeepsDocument (map (λ b. b.name) shelf.now.bodies.items) (plain_options (map string_bytes words.now)) (S.left source.old) (S.left source.new) kept.new }
     ensures legal_run { OfRun (plain_options (map string_bytes words.now)) kept.new (IsLegalRun (meanings_of_shelf (λ n. pure (n.body.vtable, n.body.value)) (λ n. single (n.body.vtable, n.body.value)) (λ n. out (n.body.vtable, n.body.value)) shelf.now.bodies.items)) }
-    ensures refused { OfRun (plain_options (map string_bytes words.now)) kept.new (IsRefusedLast kept.new.refused) }
+    ensures refused { OfRun (plain_options (map string_bytes words.now)) kept.new (IsRefusedLast (meanings_of_shelf (λ n. pure (n.body.vtable, n.body.value)) (λ n. single (n.body.vtable, n.body.value)) (λ n. out (n.body.vtable, n.body.value)) shelf.now.bodies.items) kept.new.refused) }
     ensures scripts { OfRun (plain_options (map string_bytes words.now)) kept.new FollowsCallers }
     ensures waits { OfRun (plain_options (map string_bytes words.now)) kept.new HeedsCallers }
     ensures throughout { OfRun (plain_options (map string_bytes words.now)) kept.new AgreesThroughout }

@@ -8,6 +8,11 @@ returns-in-Ok-Some-clause-legal_run g c =
     let asked : plain_options (map string_bytes c.args.words.now) ≡ Some c.in-Ok-Some.options = search rules in
     rw asked c.run_line.ensures.answer.legal
 
+pub returns-in-Ok-Some-clause-refused : goal.returns-in-Ok-Some-clause-refused
+returns-in-Ok-Some-clause-refused g c =
+    let asked : plain_options (map string_bytes c.args.words.now) ≡ Some c.in-Ok-Some.options = search rules in
+    rw asked c.run_line.ensures.answer.refused
+
 pub returns-in-Ok-Some-clause-scripts : goal.returns-in-Ok-Some-clause-scripts
 returns-in-Ok-Some-clause-scripts g c =
     let asked : plain_options (map string_bytes c.args.words.now) ≡ Some c.in-Ok-Some.options = search rules in
