@@ -3,3 +3,4 @@ mod Firsts
 mod RankSteps
 mod Ranking
 mod Rising
+mod TagSteps

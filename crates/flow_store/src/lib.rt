@@ -9,12 +9,14 @@ mod places;
 mod rank;
 mod ranked;
 mod rooms;
+mod seq;
 mod store;
 
 pub use bag::BagStore;
 pub use fifo::FifoStore;
 pub use one::OneStore;
 pub use rank::RankStore;
+pub use seq::SeqStore;
 pub use store::{Store, Way};
 
 #[cfg(test)]
