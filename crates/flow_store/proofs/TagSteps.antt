@@ -11,10 +11,14 @@ use Rattle.flow_item.specs.declared.item.Item.{Item}
 use Rattle.flow_item.specs.Lists.{drop_first, first}
 use Rattle.flow_machine.specs.Enabled.{is_numbered}
 use Rattle.flow_store.specs.Orders.{In, Rising, Once, mark, by_age, by_key, number_of, item_tag}
-use Rattle.flow_store.specs.Tags.{entry_item, tagged_items}
+use Rattle.flow_store.specs.Tags.{entry_item, tagged_items, tag_state}
 use Rattle.flow_store.proofs.Rising.{in-sorted, sorted-in, once-differs, once-tail, once-more, once-permutation, sorted-more}
 use Rattle.flow_store.proofs.RankSteps.{Went, went-of, all-sorted}
-use Rattle.flow_store.specs.Stores.{is_new}
+use Rattle.std.specs.Option.{IsSome}
+use Rattle.flow_shape.specs.declared.Kind.TheVariants as K
+use Rattle.flow_machine.specs.declared.Claim.{Claim}
+use Rattle.flow_machine.specs.State.{store_part}
+use Rattle.flow_store.specs.Stores.{is_new, goes}
 use Rattle.flow_store.proofs.Counting.{sum-sorted}
 
 -- each entry is under its item's tag
@@ -144,3 +148,33 @@ tag-went es fs e number h once tags p same =
       tags = once-tail item_tag e.1 (tagged_items fs) (once-permutation item_tag (tagged_items es) (e.1 ∷ tagged_items fs) q tags);
       items = gone.items;
     }
+
+-- ---- what may go
+
+due-filter : (n : ℕ) (es : List (ℕ × Item)) (i : Item) → Tagged es → Once item_tag (tagged_items es) → lookup (nat_eq n) es ≡ Some i → filter (λ (j : Item). nat_eq j.tag n) (by_age (tagged_items es)) ≡ i ∷ []
+due-filter n es i h once found =
+    let there = lookup-some n es i h found in
+    filter-one n (by_age (tagged_items es)) i (once-sorted (tagged_items es) once) (sorted-in (by_key number_of) i (tagged_items es) there.0) there.1
+
+-- the item that may go is the one under the tag that is due
+pub due-number : (n : ℕ) (es : List (ℕ × Item)) (lock : Option Claim) (i : Item) (number : ℕ) → Tagged es → Once item_tag (tagged_items es) → lookup (nat_eq n) es ≡ Some i
+    → goes K.Sequencer (store_part (tag_state es lock n)) number ≡ true → i.id.no ≡ number
+due-number n es (Some l) i number h once found may = let never : ⊥ = cc in absurd never
+due-number n es None i number h once found may =
+    eqb-true i.id.no number (by_first (is_numbered number i) (subst (λ xs. list_any (is_numbered number) xs ≡ true) (due-filter n es i h once found) may))
+  where
+    by_first : (b : Bool) → (b || false) ≡ true → b ≡ true
+    by_first true h = refl
+    by_first false h = h
+
+pub due-there : (n : ℕ) (es : List (ℕ × Item)) (lock : Option Claim) (number : ℕ) → Tagged es → goes K.Sequencer (store_part (tag_state es lock n)) number ≡ true → IsSome (lookup (nat_eq n) es)
+due-there n es (Some l) number h may = let never : ⊥ = cc in absurd never
+due-there n es None number h may = by_found (lookup (nat_eq n) es) refl
+  where
+    nothing : (number : ℕ) → list_any (is_numbered number) [] ≡ true → ⊥
+    nothing number h = cc
+    by_found : (r : Option Item) → lookup (nat_eq n) es ≡ r → IsSome (lookup (nat_eq n) es)
+    by_found (Some i) found = subst (λ (o : Option Item). IsSome o) (sym found) refl
+    by_found None found =
+        absurd (nothing number (subst (λ xs. list_any (is_numbered number) xs ≡ true)
+            (filter-none n (by_age (tagged_items es)) (λ z k. lookup-none n es h found z (in-sorted (by_key number_of) z (tagged_items es) k))) may))

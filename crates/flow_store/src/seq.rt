@@ -76,7 +76,7 @@ fn insert_tagged(items: &mut IndexMap<u64, Item>, item: Item)
 /// Drops the item under a tag that is there.
 fn remove_tagged(items: &mut IndexMap<u64, Item>, tag: u64)
     requires { IsSome (get nat_eq items.old tag) }
-    ensures items { (e : ℕ × Item) × (nat_eq tag e.0 ≡ true) × IsPermutation items.old.entries (e ∷ items.new.entries) }
+    ensures items { (e : ℕ × Item) × (get nat_eq items.old tag ≡ Some e.1) × IsPermutation items.old.entries (e ∷ items.new.entries) }
     ensures spare { spare items.old ≤ spare items.new }
 {
     if let Some(place) = items.get_index_of(&tag) {
