@@ -34,17 +34,17 @@ tagged-tail e es h k d below = h (suc k) d (omega arith)
 -- the item that a look-up finds
 pub lookup-some : (n : ℕ) (es : List (ℕ × Item)) (i : Item) → Tagged es → lookup (nat_eq n) es ≡ Some i → In i (tagged_items es) × (i.tag ≡ n)
 lookup-some n [] i h found = let never : ⊥ = cc in absurd never
-lookup-some n (e ∷ es) i h found = by_test (nat_eq n e.0) refl found
+lookup-some n (e ∷ es) i h found = by_test (nat_eq n e.0) refl found (λ f. lookup-some n es i (tagged-tail e es h) f)
   where
-    by_test : (b : Bool) → nat_eq n e.0 ≡ b → cond b (Some e.1) (lookup (nat_eq n) es) ≡ Some i → In i (tagged_items (e ∷ es)) × (i.tag ≡ n)
-    by_test true t found =
+    by_test : (b : Bool) → nat_eq n e.0 ≡ b → cond b (Some e.1) (lookup (nat_eq n) es) ≡ Some i → (lookup (nat_eq n) es ≡ Some i → In i (tagged_items es) × (i.tag ≡ n)) → In i (tagged_items (e ∷ es)) × (i.tag ≡ n)
+    by_test true t found deep =
         let same : i ≡ e.1 = cc in
         (inl same, ap item_tag same ∙ sym (tagged-head e es h) ∙ sym (eqb-true n e.0 t))
-    by_test false t found = let later = lookup-some n es i (tagged-tail e es h) found in (inr later.0, later.1)
+    by_test false t found deep = let later = deep found in (inr later.0, later.1)
 
 pub lookup-none : (n : ℕ) (es : List (ℕ × Item)) → Tagged es → lookup (nat_eq n) es ≡ None → (z : Item) → In z (tagged_items es) → nat_eq z.tag n ≡ false
 lookup-none n [] h none z k = absurd k
-lookup-none n (e ∷ es) h none z k = by_test (nat_eq n e.0) refl none k
+lookup-none n (e ∷ es) h none z k = by_test (nat_eq n e.0) refl none k (λ f m. lookup-none n es (tagged-tail e es h) f z m)
   where
     differs : nat_eq n e.0 ≡ false → z ≡ e.1 → nat_eq z.tag n ≡ false
     differs t same = ap (λ (i : Item). nat_eq i.tag n) same ∙ ap (λ m. nat_eq m n) (sym (tagged-head e es h)) ∙ turned n e.0 t
@@ -55,10 +55,10 @@ lookup-none n (e ∷ es) h none z k = by_test (nat_eq n e.0) refl none k
             by_tells : ((nat_eq b a ≡ true) × (b ≡ a)) ⊎ ((nat_eq b a ≡ false) × (b ≡ a → ⊥)) → nat_eq a b ≡ false → nat_eq b a ≡ false
             by_tells (inl (p, q)) t = let never : true ≡ false = sym (eq-eqb a b (sym q)) ∙ t in let no_way : ⊥ = cc in absurd no_way
             by_tells (inr (p, q)) t = p
-    by_test : (b : Bool) → nat_eq n e.0 ≡ b → cond b (Some e.1) (lookup (nat_eq n) es) ≡ None → (z ≡ e.1) ⊎ In z (tagged_items es) → nat_eq z.tag n ≡ false
-    by_test true t none k = let never : ⊥ = cc in absurd never
-    by_test false t none (inl same) = differs t same
-    by_test false t none (inr k) = lookup-none n es (tagged-tail e es h) none z k
+    by_test : (b : Bool) → nat_eq n e.0 ≡ b → cond b (Some e.1) (lookup (nat_eq n) es) ≡ None → (z ≡ e.1) ⊎ In z (tagged_items es) → (lookup (nat_eq n) es ≡ None → In z (tagged_items es) → nat_eq z.tag n ≡ false) → nat_eq z.tag n ≡ false
+    by_test true t none k deep = let never : ⊥ = cc in absurd never
+    by_test false t none (inl same) deep = differs t same
+    by_test false t none (inr k) deep = deep none k
 
 -- ---- the item that is due
 
