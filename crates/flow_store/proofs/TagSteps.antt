@@ -1,19 +1,19 @@
 -- The entries of a sequencer, one more or one less.
-use Rattle.std.proofs.Common.{◌≡◌, ℕ, zero, suc, ◌+◌, ◌<◌, ◌≤◌, Bool, true, false, ◌||◌, ◌&&◌, cond, nat_eq, nat_lt, Option, Some, None, List, [], ◌∷◌, ◌++◌, map, length, filter, slice_get, refl, sym, ap, ◌∙◌, subst, arith, inl, inr, ◌⊎◌}
+use Rattle.std.proofs.Common.{◌≡◌, ℕ, suc, ◌+◌, Bool, true, false, ◌||◌, cond, nat_eq, nat_lt, Option, Some, None, List, [], ◌∷◌, ◌++◌, filter, refl, sym, ap, ◌∙◌, subst, arith, inl, inr, ◌⊎◌}
 use Rattle.std.proofs.lemmas.Bool.{eqb-true, eq-eqb}
 use Rattle.std.proofs.lemmas.Bool.Decides.{eqb_tells}
 use Rattle.std.proofs.lemmas.List.Elements.{All-push, All-tail}
 use Rattle.std.proofs.lemmas.List.Sorted.{IsPermutation-sym, IsPermutation-to_front, IsPermutation-map, All-permutation}
-use Rattle.std.specs.List.{list_any, All, sum_by}
+use Rattle.std.specs.List.{list_any, All}
 use Rattle.std.specs.List.Sorted.{IsPermutation}
 use Rattle.std.specs.Map.{lookup}
 use Rattle.flow_item.specs.declared.item.Item.{Item}
 use Rattle.flow_item.specs.Lists.{drop_first, first}
 use Rattle.flow_machine.specs.Enabled.{is_numbered}
-use Rattle.flow_store.specs.Orders.{In, Rising, Once, mark, by_age, by_key, number_of, item_tag}
+use Rattle.flow_store.specs.Orders.{In, Once, mark, by_age, by_key, number_of, item_tag}
 use Rattle.flow_store.specs.Tags.{entry_item, tagged_items, tag_state}
 use Rattle.flow_store.proofs.Rising.{in-sorted, sorted-in, once-differs, once-tail, once-more, once-permutation, sorted-more}
-use Rattle.flow_store.proofs.RankSteps.{Went, went-of, all-sorted}
+use Rattle.flow_store.proofs.RankSteps.{went-of, all-sorted}
 use Rattle.std.specs.Option.{IsSome}
 use Rattle.flow_shape.specs.declared.Kind.TheVariants as K
 use Rattle.flow_machine.specs.declared.Claim.{Claim}
@@ -25,10 +25,10 @@ use Rattle.flow_store.proofs.Counting.{sum-sorted}
 abbrev pub Tagged : List (ℕ × Item) → Type 0
 Tagged es = All (λ (e : ℕ × Item). e.0 ≡ e.1.tag) es
 
-tagged-head : (e : ℕ × Item) (es : List (ℕ × Item)) → Tagged (e ∷ es) → e.0 ≡ e.1.tag
+pub tagged-head : (e : ℕ × Item) (es : List (ℕ × Item)) → Tagged (e ∷ es) → e.0 ≡ e.1.tag
 tagged-head e es h = h 0 e (omega arith)
 
-tagged-tail : (e : ℕ × Item) (es : List (ℕ × Item)) → Tagged (e ∷ es) → Tagged es
+pub tagged-tail : (e : ℕ × Item) (es : List (ℕ × Item)) → Tagged (e ∷ es) → Tagged es
 tagged-tail e es h k d below = h (suc k) d (omega arith)
 
 -- the item that a look-up finds
@@ -55,6 +55,7 @@ lookup-none n (e ∷ es) h none z k = by_test (nat_eq n e.0) refl none k (λ f m
             by_tells : ((nat_eq b a ≡ true) × (b ≡ a)) ⊎ ((nat_eq b a ≡ false) × (b ≡ a → ⊥)) → nat_eq a b ≡ false → nat_eq b a ≡ false
             by_tells (inl (p, q)) t = let never : true ≡ false = sym (eq-eqb a b (sym q)) ∙ t in let no_way : ⊥ = cc in absurd no_way
             by_tells (inr (p, q)) t = p
+
     by_test : (b : Bool) → nat_eq n e.0 ≡ b → cond b (Some e.1) (lookup (nat_eq n) es) ≡ None → (z ≡ e.1) ⊎ In z (tagged_items es) → (lookup (nat_eq n) es ≡ None → In z (tagged_items es) → nat_eq z.tag n ≡ false) → nat_eq z.tag n ≡ false
     by_test true t none k deep = let never : ⊥ = cc in absurd never
     by_test false t none (inl same) deep = differs t same
@@ -78,12 +79,12 @@ filter-one n [] i once k e = absurd k
 filter-one n (z ∷ zs) i once (inl same) e =
     let here : nat_eq z.tag n ≡ true = eq-eqb z.tag n (ap item_tag (sym same) ∙ e) in
     rw here (ap (λ w. w ∷ filter (λ (j : Item). nat_eq j.tag n) zs) (sym same)
-             ∙ ap (λ ws. i ∷ ws) (filter-none n zs (λ y k. differ y.tag n (λ f. once-differs item_tag z y zs once k (ap item_tag (sym same) ∙ e ∙ sym f)))))
+    ∙ ap (λ ws. i ∷ ws) (filter-none n zs (λ y k. differ y.tag n (λ f. once-differs item_tag z y zs once k (ap item_tag (sym same) ∙ e ∙ sym f)))))
 filter-one n (z ∷ zs) i once (inr k) e =
     let away : nat_eq z.tag n ≡ false = differ z.tag n (λ f. once-differs item_tag z i zs once k (f ∙ sym e)) in
     rw away (filter-one n zs i (once-tail item_tag z zs once) k e)
 
-once-sorted : (xs : List Item) → Once item_tag xs → Once item_tag (by_age xs)
+pub once-sorted : (xs : List Item) → Once item_tag xs → Once item_tag (by_age xs)
 once-sorted xs h n = rw (sum-sorted (by_key number_of) (mark item_tag n) xs) (h n)
 
 -- the look-up finds the first that may go
@@ -96,7 +97,7 @@ due-first n es h once (Some i) found =
 
 -- ---- one more
 
-map-more : (es : List (ℕ × Item)) (e : ℕ × Item) → tagged_items (es ++ e ∷ []) ≡ tagged_items es ++ e.1 ∷ []
+pub map-more : (es : List (ℕ × Item)) (e : ℕ × Item) → tagged_items (es ++ e ∷ []) ≡ tagged_items es ++ e.1 ∷ []
 map-more [] e = refl
 map-more (f ∷ es) e = ap (λ zs. f.1 ∷ zs) (map-more es e)
 
@@ -118,7 +119,7 @@ tag-came es fs x h once tags above none e =
     let p : IsPermutation (x ∷ xs) (xs ++ x ∷ []) = IsPermutation-sym (xs ++ x ∷ []) (x ∷ xs) (IsPermutation-to_front xs x) in
     let more = sorted-more number_of x xs (xs ++ x ∷ []) p once (λ z k. all-sorted (λ (i : Item). nat_lt i.id.no x.id.no) xs z above k) in
     let new_tags = once-permutation item_tag (x ∷ xs) (xs ++ x ∷ []) p
-        (once-more item_tag x xs tags (λ z k f. same-tags z.tag x.tag f (lookup-none x.tag es h none z k))) in
+    (once-more item_tag x xs tags (λ z k f. same-tags z.tag x.tag f (lookup-none x.tag es h none z k))) in
     record {
       tagged = subst Tagged (sym e) (tagged-more es x h);
       once = subst (Once number_of) (sym plain) more.0;
@@ -173,8 +174,9 @@ due-there n es None number h may = by_found (lookup (nat_eq n) es) refl
   where
     nothing : (number : ℕ) → list_any (is_numbered number) [] ≡ true → ⊥
     nothing number h = cc
+
     by_found : (r : Option Item) → lookup (nat_eq n) es ≡ r → IsSome (lookup (nat_eq n) es)
     by_found (Some i) found = subst (λ (o : Option Item). IsSome o) (sym found) refl
     by_found None found =
         absurd (nothing number (subst (λ xs. list_any (is_numbered number) xs ≡ true)
-            (filter-none n (by_age (tagged_items es)) (λ z k. lookup-none n es h found z (in-sorted (by_key number_of) z (tagged_items es) k))) may))
+        (filter-none n (by_age (tagged_items es)) (λ z k. lookup-none n es h found z (in-sorted (by_key number_of) z (tagged_items es) k))) may))
