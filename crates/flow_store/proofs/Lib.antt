@@ -3,3 +3,5 @@ mod Firsts
 mod RankSteps
 mod Ranking
 mod Rising
+mod TagOrders
+mod TagSteps

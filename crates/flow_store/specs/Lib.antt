@@ -5,3 +5,4 @@ pub mod Orders
 pub mod RankOrder
 pub mod Ranks
 pub mod Stores
+pub mod Tags

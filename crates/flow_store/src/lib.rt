@@ -9,10 +9,12 @@ mod places;
 mod rank;
 mod ranked;
 mod rooms;
+mod seq;
 mod store;
 
 pub use bag::BagStore;
 pub use fifo::FifoStore;
 pub use one::OneStore;
 pub use rank::RankStore;
+pub use seq::SeqStore;
 pub use store::{Store, Way};
