@@ -1,4 +1,4 @@
-ghost use Rattle.std.specs.Prelude.{◌≡◌, ℕ, ◌<◌, true, IfOk, [], ◌∷◌, pos, length};
+ghost use Rattle.std.specs.Prelude.{◌≡◌, ◌<◌, true, IfOk, [], ◌∷◌, pos, length};
 ghost use Rattle.std.specs.List.{list_all};
 ghost use Rattle.flow_shape.specs.declared.Kind.TheVariants as K;
 ghost use Rattle.flow_shape.specs.declared.Step.TheVariants as T;
@@ -37,7 +37,7 @@ fn name(alloc: Global, text: &str) -> Result<Text, Fail> {
 
 // One queue.
 fn one_queue(alloc: Global) -> Result<Doc, Fail>
-    ensures fits { IfOk result (λ doc. (bodies : ℕ) → doc_fits bodies doc ≡ true) }
+    ensures fits { IfOk result (λ doc. doc_fits 2 doc ≡ true) }
     ensures built { IfOk result (λ doc. list_all is_built doc.shape.nodes ≡ true) }
     ensures version { IfOk result (λ doc. doc.version < 3) }
 {
@@ -60,7 +60,7 @@ fn one_queue(alloc: Global) -> Result<Doc, Fail>
 
 // Two queues in a row.
 fn two_queues(alloc: Global) -> Result<Doc, Fail>
-    ensures fits { IfOk result (λ doc. (bodies : ℕ) → doc_fits bodies doc ≡ true) }
+    ensures fits { IfOk result (λ doc. doc_fits 2 doc ≡ true) }
     ensures built { IfOk result (λ doc. list_all is_built doc.shape.nodes ≡ true) }
     ensures version { IfOk result (λ doc. doc.version < 3) }
 {
@@ -229,6 +229,25 @@ fn nothing_kept(alloc: Global) -> Kept
     }
 }
 
+// How a run ended, and what it leaves.
+#[derive(Drop)]
+struct Ran {
+    answer: Result<(), Stop>,
+    kept: Kept,
+}
+
+// Runs the document with the two bodies.
+fn run(alloc: Global, doc: &Doc, items: u64, events: u64) -> Result<Ran, Fail>
+    requires fits { doc_fits 2 doc.now ≡ true }
+    requires built { list_all is_built doc.now.shape.nodes ≡ true }
+    requires version { doc.now.version < 3 }
+{
+    let mut kept = nothing_kept(alloc);
+    let shelf = shelf_of(alloc, Box::new(alloc, Add)?, Box::new(alloc, FailMemory)?)?;
+    let answer = run_plain(alloc, doc, &shelf, items, events, &mut kept);
+    Ok(Ran { answer, kept })
+}
+
 fn is_put(e: Option<&Event>) -> bool {
     match e {
         Some(
@@ -320,12 +339,10 @@ fn is_end(e: Option<&Event>, of: u64, number: u64, value: i64) -> bool {
 fn no_item_may_be_born(rt: HostRuntime) -> Result<(), Fail> {
     let alloc = rt.alloc();
     let doc = one_queue(alloc)?;
-    let mut kept = nothing_kept(alloc);
-    let shelf = shelf_of(alloc, Box::new(alloc, Add)?, Box::new(alloc, FailMemory)?)?;
-    let answer = run_plain(alloc, &doc, &shelf, 0, 100, &mut kept);
-    assert!(rt; matches!(answer, Err(Stop::Limit)));
-    assert_eq!(rt; kept.journal.len(), 0);
-    assert!(rt; is_put(kept.refused.as_ref()));
+    let ran = run(alloc, &doc, 0, 100)?;
+    assert!(rt; matches!(ran.answer, Err(Stop::Limit)));
+    assert_eq!(rt; ran.kept.journal.len(), 0);
+    assert!(rt; is_put(ran.kept.refused.as_ref()));
     Ok(())
 }
 
@@ -333,14 +350,12 @@ fn no_item_may_be_born(rt: HostRuntime) -> Result<(), Fail> {
 fn one_item_may_be_born(rt: HostRuntime) -> Result<(), Fail> {
     let alloc = rt.alloc();
     let doc = two_queues(alloc)?;
-    let mut kept = nothing_kept(alloc);
-    let shelf = shelf_of(alloc, Box::new(alloc, Add)?, Box::new(alloc, FailMemory)?)?;
-    let answer = run_plain(alloc, &doc, &shelf, 1, 100, &mut kept);
-    assert!(rt; matches!(answer, Err(Stop::Limit)));
-    assert_eq!(rt; kept.journal.len(), 2);
-    assert!(rt; is_put(kept.journal.get(0)));
-    assert!(rt; is_leave(kept.journal.get(1)));
-    assert!(rt; is_give(kept.refused.as_ref()));
+    let ran = run(alloc, &doc, 1, 100)?;
+    assert!(rt; matches!(ran.answer, Err(Stop::Limit)));
+    assert_eq!(rt; ran.kept.journal.len(), 2);
+    assert!(rt; is_put(ran.kept.journal.get(0)));
+    assert!(rt; is_leave(ran.kept.journal.get(1)));
+    assert!(rt; is_give(ran.kept.refused.as_ref()));
     Ok(())
 }
 
@@ -348,12 +363,10 @@ fn one_item_may_be_born(rt: HostRuntime) -> Result<(), Fail> {
 fn three_events_may_be_made(rt: HostRuntime) -> Result<(), Fail> {
     let alloc = rt.alloc();
     let doc = two_queues(alloc)?;
-    let mut kept = nothing_kept(alloc);
-    let shelf = shelf_of(alloc, Box::new(alloc, Add)?, Box::new(alloc, FailMemory)?)?;
-    let answer = run_plain(alloc, &doc, &shelf, 100, 3, &mut kept);
-    assert!(rt; matches!(answer, Err(Stop::Limit)));
-    assert_eq!(rt; kept.journal.len(), 3);
-    assert!(rt; matches!(kept.refused, Some(Event::Idle { node: 0 })));
+    let ran = run(alloc, &doc, 100, 3)?;
+    assert!(rt; matches!(ran.answer, Err(Stop::Limit)));
+    assert_eq!(rt; ran.kept.journal.len(), 3);
+    assert!(rt; matches!(ran.kept.refused, Some(Event::Idle { node: 0 })));
     Ok(())
 }
 
@@ -382,16 +395,14 @@ fn nodes_are_handed_on(rt: HostRuntime) -> Result<(), Fail> {
 fn a_body_runs(rt: HostRuntime) -> Result<(), Fail> {
     let alloc = rt.alloc();
     let doc = function_into_queue(alloc)?;
-    let mut kept = nothing_kept(alloc);
-    let shelf = shelf_of(alloc, Box::new(alloc, Add)?, Box::new(alloc, FailMemory)?)?;
-    let answer = run_plain(alloc, &doc, &shelf, 100, 100, &mut kept);
-    assert!(rt; answer.is_ok());
-    assert_eq!(rt; kept.journal.len(), 8);
-    assert!(rt; is_put(kept.journal.get(0)));
-    assert!(rt; is_leave(kept.journal.get(1)));
-    assert!(rt; is_start(kept.journal.get(2)));
-    assert!(rt; is_end(kept.journal.get(3), 0, 1, 6));
-    assert!(rt; kept.refused.is_none());
+    let ran = run(alloc, &doc, 100, 100)?;
+    assert!(rt; ran.answer.is_ok());
+    assert_eq!(rt; ran.kept.journal.len(), 8);
+    assert!(rt; is_put(ran.kept.journal.get(0)));
+    assert!(rt; is_leave(ran.kept.journal.get(1)));
+    assert!(rt; is_start(ran.kept.journal.get(2)));
+    assert!(rt; is_end(ran.kept.journal.get(3), 0, 1, 6));
+    assert!(rt; ran.kept.refused.is_none());
     Ok(())
 }
 
@@ -399,13 +410,11 @@ fn a_body_runs(rt: HostRuntime) -> Result<(), Fail> {
 fn a_limit_refuses_the_end(rt: HostRuntime) -> Result<(), Fail> {
     let alloc = rt.alloc();
     let doc = function_into_queue(alloc)?;
-    let mut kept = nothing_kept(alloc);
-    let shelf = shelf_of(alloc, Box::new(alloc, Add)?, Box::new(alloc, FailMemory)?)?;
-    let answer = run_plain(alloc, &doc, &shelf, 1, 100, &mut kept);
-    assert!(rt; matches!(answer, Err(Stop::Limit)));
-    assert_eq!(rt; kept.journal.len(), 3);
-    assert!(rt; is_start(kept.journal.get(2)));
-    assert!(rt; is_end(kept.refused.as_ref(), 0, 1, 6));
+    let ran = run(alloc, &doc, 1, 100)?;
+    assert!(rt; matches!(ran.answer, Err(Stop::Limit)));
+    assert_eq!(rt; ran.kept.journal.len(), 3);
+    assert!(rt; is_start(ran.kept.journal.get(2)));
+    assert!(rt; is_end(ran.kept.refused.as_ref(), 0, 1, 6));
     Ok(())
 }
 
@@ -413,13 +422,11 @@ fn a_limit_refuses_the_end(rt: HostRuntime) -> Result<(), Fail> {
 fn a_body_finds_no_memory(rt: HostRuntime) -> Result<(), Fail> {
     let alloc = rt.alloc();
     let doc = function_without_memory(alloc)?;
-    let mut kept = nothing_kept(alloc);
-    let shelf = shelf_of(alloc, Box::new(alloc, Add)?, Box::new(alloc, FailMemory)?)?;
-    let answer = run_plain(alloc, &doc, &shelf, 100, 100, &mut kept);
-    assert!(rt; matches!(answer, Err(Stop::Memory)));
-    assert_eq!(rt; kept.journal.len(), 3);
-    assert!(rt; is_start(kept.journal.get(2)));
-    assert!(rt; kept.refused.is_none());
+    let ran = run(alloc, &doc, 100, 100)?;
+    assert!(rt; matches!(ran.answer, Err(Stop::Memory)));
+    assert_eq!(rt; ran.kept.journal.len(), 3);
+    assert!(rt; is_start(ran.kept.journal.get(2)));
+    assert!(rt; ran.kept.refused.is_none());
     Ok(())
 }
 
@@ -427,11 +434,9 @@ fn a_body_finds_no_memory(rt: HostRuntime) -> Result<(), Fail> {
 fn a_cycle_meets_the_limit(rt: HostRuntime) -> Result<(), Fail> {
     let alloc = rt.alloc();
     let doc = function_in_cycle(alloc)?;
-    let mut kept = nothing_kept(alloc);
-    let shelf = shelf_of(alloc, Box::new(alloc, Add)?, Box::new(alloc, FailMemory)?)?;
-    let answer = run_plain(alloc, &doc, &shelf, 10, 1000, &mut kept);
-    assert!(rt; matches!(answer, Err(Stop::Limit)));
-    assert_eq!(rt; kept.journal.len(), 21);
-    assert!(rt; is_end(kept.refused.as_ref(), 6, 7, 9));
+    let ran = run(alloc, &doc, 10, 1000)?;
+    assert!(rt; matches!(ran.answer, Err(Stop::Limit)));
+    assert_eq!(rt; ran.kept.journal.len(), 21);
+    assert!(rt; is_end(ran.kept.refused.as_ref(), 6, 7, 9));
     Ok(())
 }
