@@ -9,5 +9,5 @@ pub invariant_of-self : goal.invariant_of-self
 invariant_of-self c =
     let was = c.self.inside.ports.items in
     let same : length c.take_fronts.new.rings.items ≡ length was
-        = sym (length-map c.take_fronts.new.rings.items ring_items) ∙ ap length c.take_fronts.ensures.rings ∙ length-map (map ring_items was) rest ∙ length-map was ring_items in
+    = sym (length-map c.take_fronts.new.rings.items ring_items) ∙ ap length c.take_fronts.ensures.rings ∙ length-map (map ring_items was) rest ∙ length-map was ring_items in
     keeps-after _ _ c.self.inside.spare c.self.invariant same c.take_fronts.ensures.room
