@@ -1,7 +1,7 @@
 -- A key-matching join with its room, as contracts see it.
 use Rattle.std.specs.Prelude.{◌≡◌, ℕ, ◌<◌, ◌≤◌, Bool, if◌then◌else◌, nat_eq, Option, Some, List, [], map, length, slice_get}
 use Rattle.std.specs.List.{list_any, list_all, sum_by}
-use Rattle.std.specs.Option.{unwrap_or}
+use Rattle.std.specs.Option.{unwrap_or, MatchOption}
 use Rattle.std.specs.Ordering.{nat_cmp}
 use Rattle.std.specs.declared.cmp.Ordering.{Ordering}
 use Rattle.std.specs.declared.cmp.Reverse.{Reverse}
@@ -45,6 +45,10 @@ least_first x y = nat_cmp y.0 x.0
 -- how often a tag stands in the heap
 abbrev pub count_tag : ℕ → List (Reverse ℕ) → ℕ
 count_tag tag rs = sum_by (λ (r : Reverse ℕ). if nat_eq r.0 tag then 1 else 0) rs
+
+-- the least tag of the heap, where it has one
+abbrev pub IsLeastTag : List (Reverse ℕ) → Option ℕ → Type 0
+IsLeastTag rs o = MatchOption o ((tag : ℕ) → count_tag tag rs ≡ 0) (λ x. (0 < count_tag x rs) × ((tag : ℕ) → 0 < count_tag tag rs → x ≤ tag))
 
 -- from 1 to 8 ports; the heap has each tag that is at each port, once; what was reserved is there
 pub record KeepsKeys (ports : List RoomyPort) (complete : BinaryHeap (Reverse ℕ) Global) (ready_for : Option (ℕ × ℕ)) : Type 0 where

@@ -68,9 +68,7 @@ impl KeyJoin {
         ensures same { self.new ≡ record self.old { ready_for = self.new.ready_for } }
     {
         self.ready_for = None;
-        if self.complete.reserve(1).is_err() {
-            return Err(NoMemory);
-        }
+        reserve_tag(&mut self.complete)?;
         let at = &mut self.ports[port as usize];
         at.reserve(tag)?;
         self.ready_for = Some((port, tag));
@@ -106,9 +104,8 @@ impl KeyJoin {
         let was = at_each(&self.ports, tag);
         let at = &mut self.ports[port as usize];
         at.accept(item);
-        if !was && at_each(&self.ports, tag) {
-            push_tag(&mut self.complete, tag);
-        }
+        let now = at_each(&self.ports, tag);
+        add_tag(&mut self.complete, tag, was, now);
         self.ready_for = None;
     }
 
@@ -116,7 +113,7 @@ impl KeyJoin {
     pub fn ready(&self) -> bool
         ensures { result ≡ is_some (next_key_parts self.now) }
     {
-        !self.complete.is_empty()
+        least_tag(&self.complete).is_some()
     }
 
     /// The part of the next tuple at a port: its oldest item of the least tag that is at each port.
@@ -124,10 +121,10 @@ impl KeyJoin {
         requires { port < length self.now.ports }
         ensures { option_copied result ≡ where_some (next_key_parts self.now) (λ parts. slice_get parts port) }
     {
-        match self.complete.peek() {
-            Some(Reverse(tag)) => {
+        match least_tag(&self.complete) {
+            Some(tag) => {
                 let at = &self.ports[port as usize];
-                at.part(*tag)
+                at.part(tag)
             }
             None => None,
         }
@@ -148,15 +145,14 @@ impl KeyJoin {
     {
         let tag = pop_tag(&mut self.complete);
         take_parts(&mut self.ports, tag, ids, vals);
-        if at_each(&self.ports, tag) {
-            push_tag(&mut self.complete, tag);
-        }
+        let now = at_each(&self.ports, tag);
+        add_tag(&mut self.complete, tag, false, now);
         self.ready_for = None;
         tag
     }
 }
 
-ghost use Rattle.std.specs.Prelude.{ℕ, ◌+◌, nat_eq, if◌then◌else◌};
+ghost use Rattle.std.specs.Prelude.{ℕ, ◌+◌, nat_eq, not, ◌&&◌, if◌then◌else◌};
 ghost use Rattle.std.specs.BinaryHeap.{heap_items, heap_len, heap_capacity, IsHeap};
 ghost use Rattle.std.specs.declared.cmp.Reverse.{Reverse};
 ghost use Rattle.std.specs.List.{list_all};
@@ -165,7 +161,7 @@ ghost use Rattle.flow_machine.specs.Offers.{with_tag, fronts};
 ghost use Rattle.flow_machine.specs.After.{has_tag};
 ghost use Rattle.std.specs.Option.{unwrap_or};
 ghost use Rattle.flow_join.specs.Tags.{RoomyPort};
-ghost use Rattle.flow_join.specs.Keys.{port_items, at_each, least_first, count_tag};
+ghost use Rattle.flow_join.specs.Keys.{port_items, at_each, least_first, count_tag, IsLeastTag};
 
 /// So many ports at which nothing waits.
 fn key_ports(alloc: Global, ports: u32) -> Result<Vec<KeyPort>, AllocError>
@@ -185,6 +181,17 @@ fn at_each(ports: &[KeyPort], tag: u64) -> bool
     ports.iter().all(|port| port.has(tag))
 }
 
+/// Makes room for one more tag.
+fn reserve_tag(heap: &mut BinaryHeap<Reverse<u64>>) -> Result<(), NoMemory>
+    ensures ok { OnOk result (heap_len heap.new < heap_capacity heap.new) }
+    ensures same { heap_items heap.new ≡ heap_items heap.old }
+{
+    match heap.reserve(1) {
+        Ok(()) => Ok(()),
+        Err(_) => Err(NoMemory),
+    }
+}
+
 /// Adds a tag, for which there is room.
 fn push_tag(heap: &mut BinaryHeap<Reverse<u64>>, tag: u64)
     requires room { heap_len heap.old < heap_capacity heap.old }
@@ -195,6 +202,33 @@ fn push_tag(heap: &mut BinaryHeap<Reverse<u64>>, tag: u64)
     match heap.push(Reverse(tag)) {
         Ok(()) => {}
         Err(_) => unreachable!(),
+    }
+}
+
+/// Adds a tag that is at each port now and was not before, for which there is room.
+fn add_tag(heap: &mut BinaryHeap<Reverse<u64>>, tag: u64, was: bool, now: bool)
+    requires room { heap_len heap.old < heap_capacity heap.old }
+    requires ordered { IsHeap least_first (heap_items heap.old) }
+    ensures ordered { IsHeap least_first (heap_items heap.new) }
+    ensures tags { (t : ℕ) → count_tag t (heap_items heap.new)
+        ≡ (if not was && now then (if nat_eq tag t then 1 else 0) else 0) + count_tag t (heap_items heap.old) }
+{
+    if was {
+        return;
+    }
+    if now {
+        push_tag(heap, tag);
+    }
+}
+
+/// The least tag.
+fn least_tag(heap: &BinaryHeap<Reverse<u64>>) -> Option<u64>
+    requires { IsHeap least_first (heap_items heap.now) }
+    ensures { IsLeastTag (heap_items heap.now) result }
+{
+    match heap.peek() {
+        Some(Reverse(tag)) => Some(*tag),
+        None => None,
     }
 }
 
