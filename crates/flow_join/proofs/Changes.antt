@@ -94,7 +94,7 @@ module _ (ps qs : List RoomyPort) (item : Item) (k : ℕ) (came : map port_items
   each-others t apart =
       each-items t qs ∙ ap (list_all (λ (is : List Item). list_any (has_tag t) is)) came
       ∙ all-change (λ (is : List Item). list_any (has_tag t) is) (λ (is : List Item). is ++ item ∷ [])
-          (λ is. any-push (has_tag t) is item ∙ ap (λ (b : Bool). list_any (has_tag t) is || b) apart ∙ or-false (list_any (has_tag t) is)) k (map port_items ps)
+      (λ is. any-push (has_tag t) is item ∙ ap (λ (b : Bool). list_any (has_tag t) is || b) apart ∙ or-false (list_any (has_tag t) is)) k (map port_items ps)
       ∙ sym (each-items t ps)
     where
       or-false : (b : Bool) → (b || false) ≡ b
@@ -106,7 +106,7 @@ module _ (ps qs : List RoomyPort) (item : Item) (k : ℕ) (came : map port_items
   each-kept h =
       each-items item.tag qs ∙ ap (list_all (λ (is : List Item). list_any (has_tag item.tag) is)) came
       ∙ all-change-true (λ (is : List Item). list_any (has_tag item.tag) is) (λ (is : List Item). is ++ item ∷ [])
-          (λ is here. any-push (has_tag item.tag) is item ∙ ap (λ (b : Bool). b || has_tag item.tag item) here) k (map port_items ps) (sym (each-items item.tag ps) ∙ h)
+      (λ is here. any-push (has_tag item.tag) is item ∙ ap (λ (b : Bool). b || has_tag item.tag item) here) k (map port_items ps) (sym (each-items item.tag ps) ∙ h)
 
 -- another tag's items stay where an item leaves
 any-drop : (x t : ℕ) → nat_eq x t ≡ false → (is : List Item) → list_any (has_tag t) (drop_first (has_tag x) is) ≡ list_any (has_tag t) is
@@ -167,7 +167,7 @@ pub ready-set : (ps : List RoomyPort) (k tag : ℕ) (q : RoomyPort) → q.ready 
 ready-set ps k tag q h r p e =
     let same : (k, tag) ≡ r = cc in
     subst (λ (s : ℕ × ℕ). slice_get (slice_set ps k q) s.0 ≡ Some p → p.ready ≡ Some s.1) same
-        (λ at. subst (λ (s : RoomyPort). s.ready ≡ Some tag) (get-set ps k q p at) h)
+    (λ at. subst (λ (s : RoomyPort). s.ready ≡ Some tag) (get-set ps k q p at) h)
 
 module _ (xss : List (List Item)) (ports : List RoomyPort) (i : ℕ) (p : RoomyPort) (f : List Item → List Item) where
   -- the port at the place that is next has what stood there at first
@@ -183,7 +183,8 @@ module _ (xss : List (List Item)) (ports : List RoomyPort) (i : ℕ) (p : RoomyP
 pub given-next : {X Y Z : Type 0} (g : X → Option Y) (f : Y → Z) (i : ℕ) (xs : List X) (x : X) (y : Y) → slice_get xs i ≡ Some x → g x ≡ Some y
     → map f (given_to g (i + 1) xs) ≡ map f (given_to g i xs) ++ f y ∷ []
 given-next g f i xs x y at e =
-    rw (add-one, given_to-step g i xs, at, e) (map-append f (given_to g i xs) (y ∷ []))
+    let more : map f (given_to g (i + 1) xs) ≡ map f (given_to g i xs) ++ map f (option_list (g x)) = rw (add-one, given_to-step g i xs, at) (map-append f (given_to g i xs) (option_list (g x))) in
+    more ∙ ap (λ (o : Option Y). map f (given_to g i xs) ++ map f (option_list o)) e
 
 -- all ports have given their oldest items of the tag
 pub given-end : (tag i : ℕ) (xss : List (List Item)) → is_some (fronts (map (with_tag tag) xss)) ≡ true → i ≡ length xss

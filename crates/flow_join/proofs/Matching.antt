@@ -154,7 +154,7 @@ module _ (ps : List RoomyPort) (rs : List (Reverse ℕ)) (some : 1 ≤ length ps
   part-of x found k p within at =
       ap (λ (o : Option (List Item)). where_some o (λ parts. slice_get parts k)) (parts-are x found) ∙ fronts-at (map (with_tag x) (map port_items ps)) k (next-fronts x found)
       ∙ ap (λ (o : Option (List Item)). where_some o first)
-          (get-map-get (with_tag x) (map port_items ps) k p.items (get-map port_items ps k p within ∙ ap (λ (q : RoomyPort). Some q.items) (sym at)))
+      (get-map-get (with_tag x) (map port_items ps) k p.items (get-map port_items ps k p within ∙ ap (λ (q : RoomyPort). Some q.items) (sym at)))
 
   -- the parts have the tag
   pub tag-is : (x : ℕ) → IsLeastTag rs (Some x) → tag_of (unwrap_or (matching_parts (map port_items ps) (least (common_tags (map port_items ps)))) []) ≡ x

@@ -248,12 +248,7 @@ fn pop_tag(heap: &mut BinaryHeap<Reverse<u64>>) -> u64
 }
 
 /// The oldest item of a tag leaves each port, and stands last in the lists.
-fn take_parts(
-    ports: &mut Vec<KeyPort>,
-    tag: u64,
-    ids: &mut Roomy<Id>,
-    vals: &mut Roomy<Val>,
-)
+fn take_parts(ports: &mut Vec<KeyPort>, tag: u64, ids: &mut Roomy<Id>, vals: &mut Roomy<Val>)
     requires each { at_each tag ports.old.items ≡ true }
     requires ids { length ports.old.items ≤ ids.old.spare }
     requires vals { length ports.old.items ≤ vals.old.spare }

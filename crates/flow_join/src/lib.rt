@@ -10,6 +10,5 @@ mod tags;
 pub use key::KeyJoin;
 pub use queue::QueueJoin;
 
-
 #[cfg(test)]
 mod tests;

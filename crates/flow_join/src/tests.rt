@@ -62,8 +62,7 @@ fn one_port_gives_each_item(rt: HostRuntime) -> Result<(), Fail> {
     Ok(())
 }
 
-fn numbers(join: &mut KeyJoin, alloc: Global) -> Option<(u64, u64, u64)>
-{
+fn numbers(join: &mut KeyJoin, alloc: Global) -> Option<(u64, u64, u64)> {
     let (mut ids, mut vals) = lists(alloc)?;
     if !join.ready() || join.ports() > 2 {
         return None;
@@ -75,7 +74,15 @@ fn numbers(join: &mut KeyJoin, alloc: Global) -> Option<(u64, u64, u64)>
 #[test]
 fn least_tags_of_two_ports_match(rt: HostRuntime) -> Result<(), Fail> {
     let mut join = KeyJoin::new(rt.alloc(), 2).ok().ok_or("a join")?;
-    let arrivals = [(0, 0, u64::MAX), (0, 1, 5), (1, 2, 9), (1, 3, u64::MAX), (0, 4, 5), (1, 5, 5), (1, 6, 5)];
+    let arrivals = [
+        (0, 0, u64::MAX),
+        (0, 1, 5),
+        (1, 2, 9),
+        (1, 3, u64::MAX),
+        (0, 4, 5),
+        (1, 5, 5),
+        (1, 6, 5),
+    ];
     for (port, number, tag) in arrivals {
         join.reserve(port, tag).ok().ok_or("room")?;
         join.accept(port, item(number, tag));

@@ -8,7 +8,7 @@ use Rattle.flow_machine.specs.Offers.{fronts, with_tag, tag_of}
 use Rattle.flow_machine.specs.After.{has_tag, ports_after_form}
 use Rattle.flow_machine.specs.WishEvents.{id_of}
 use Rattle.flow_join.specs.Tags.{RoomyPort}
-use Rattle.flow_join.specs.Keys.{RoomyKeyJoin, port_items, at_each, count_tag, next_key_parts, key_taken, key_kind_of}
+use Rattle.flow_join.specs.Keys.{RoomyKeyJoin, port_items, at_each, count_tag, next_key_parts, key_taken, IsLeastTag}
 use Rattle.flow_join.proofs.Changes.{each-dropped, dropped-count}
 use Rattle.flow_join.proofs.Counts.{moved, popped-some}
 use Rattle.flow_join.proofs.Matching.{each-counted, heap-some, parts-are, tag-is}
@@ -52,11 +52,11 @@ returns-clause-join c =
     let i = c.self.inside in
     let ps = i.ports.items in
     let x = c.pop_tag-tag.result in
-    let found = (popped-some x _ _ (c.pop_tag-tag.ensures.tags x), c.pop_tag-tag.ensures.least) in
+    let found : IsLeastTag (heap_items i.complete) (Some x) = (popped-some x _ _ (c.pop_tag-tag.ensures.tags x), c.pop_tag-tag.ensures.least) in
     let tagged = tag-is ps (heap_items i.complete) c.self.invariant.some c.self.invariant.counted x found in
     let made : List (List Item) → RoomyKeyJoin = λ iss. record { ports = iss; ready_for = None } in
     ap made (c.take_parts.ensures.ports ∙ ap (λ (t : ℕ). map (drop_first (has_tag t)) (map port_items ps)) (sym tagged)
-        ∙ ap (λ (v : RoomyKeyJoin). map (drop_first (has_tag (tag_of (key_taken v)))) v.ports) c.self.view_is)
+    ∙ ap (λ (v : RoomyKeyJoin). map (drop_first (has_tag (tag_of (key_taken v)))) v.ports) c.self.view_is)
 
 pub returns-clause-ids : goal.returns-clause-ids
 returns-clause-ids c =
@@ -64,7 +64,7 @@ returns-clause-ids c =
     let ps = i.ports.items in
     let x = c.pop_tag-tag.result in
     let was = c.args.ids.now in
-    let found = (popped-some x _ _ (c.pop_tag-tag.ensures.tags x), c.pop_tag-tag.ensures.least) in
+    let found : IsLeastTag (heap_items i.complete) (Some x) = (popped-some x _ _ (c.pop_tag-tag.ensures.tags x), c.pop_tag-tag.ensures.least) in
     let parts = sym (parts-are ps (heap_items i.complete) c.self.invariant.some c.self.invariant.counted x found) in
     let long = sym (length-map ps port_items) in
     c.take_parts.ensures.ids ∙ (λ j. roomy (was.items ++ map id_of (unwrap_or (parts j) [])) (was.spare - long j))
@@ -76,7 +76,7 @@ returns-clause-vals c =
     let ps = i.ports.items in
     let x = c.pop_tag-tag.result in
     let was = c.args.vals.now in
-    let found = (popped-some x _ _ (c.pop_tag-tag.ensures.tags x), c.pop_tag-tag.ensures.least) in
+    let found : IsLeastTag (heap_items i.complete) (Some x) = (popped-some x _ _ (c.pop_tag-tag.ensures.tags x), c.pop_tag-tag.ensures.least) in
     let parts = sym (parts-are ps (heap_items i.complete) c.self.invariant.some c.self.invariant.counted x found) in
     let long = sym (length-map ps port_items) in
     c.take_parts.ensures.vals ∙ (λ j. roomy (was.items ++ map (λ (p : Item). p.val) (unwrap_or (parts j) [])) (was.spare - long j))
@@ -86,5 +86,5 @@ pub returns-clause-tag : goal.returns-clause-tag
 returns-clause-tag c =
     let i = c.self.inside in
     let x = c.pop_tag-tag.result in
-    let found = (popped-some x _ _ (c.pop_tag-tag.ensures.tags x), c.pop_tag-tag.ensures.least) in
+    let found : IsLeastTag (heap_items i.complete) (Some x) = (popped-some x _ _ (c.pop_tag-tag.ensures.tags x), c.pop_tag-tag.ensures.least) in
     sym (tag-is i.ports.items (heap_items i.complete) c.self.invariant.some c.self.invariant.counted x found) ∙ ap (λ (v : RoomyKeyJoin). tag_of (key_taken v)) c.self.view_is

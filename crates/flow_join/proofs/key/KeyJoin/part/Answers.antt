@@ -20,5 +20,5 @@ pub returns-in-None : goal.returns-in-None
 returns-in-None c =
     let i = c.self.inside in
     ap (λ (o : Option ℕ). where_some (matching_parts (map port_items i.ports.items) o) (λ parts. slice_get parts c.args.port))
-        (sym (next-tag i.ports.items (heap_items i.complete) c.self.invariant.some c.self.invariant.counted None c.in-None.ensures))
+    (sym (next-tag i.ports.items (heap_items i.complete) c.self.invariant.some c.self.invariant.counted None c.in-None.ensures))
     ∙ ap (λ (v : RoomyKeyJoin). where_some (next_key_parts v) (λ parts. slice_get parts c.args.port)) c.self.view_is

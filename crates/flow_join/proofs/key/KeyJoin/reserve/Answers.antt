@@ -8,7 +8,7 @@ pub invariant_of-self-in_err-reserve : goal.invariant_of-self-in_err-reserve
 invariant_of-self-in_err-reserve c =
     let i = c.self.inside in
     keeps-reserved i.ports.items c.args.port c.index_mut-at.result.now c.reserve.new.self i.complete c.reserve_tag.new.heap i.ready_for None
-        c.self.invariant c.index_mut-at.ensures.value (ap port_items c.reserve.ensures.same) c.reserve_tag.ensures.same (λ r s e at. cc) (λ r e. cc)
+    c.self.invariant c.index_mut-at.ensures.value (ap port_items c.reserve.ensures.same) c.reserve_tag.ensures.same (λ r s e at. cc) (λ r e. cc)
 
 pub returns-in_err-reserve-clause-same : goal.returns-in_err-reserve-clause-same
 returns-in_err-reserve-clause-same c =
@@ -21,8 +21,8 @@ pub invariant_of-self : goal.invariant_of-self
 invariant_of-self c =
     let i = c.self.inside in
     keeps-reserved i.ports.items c.args.port c.index_mut-at.result.now c.reserve.new.self i.complete c.reserve_tag.new.heap i.ready_for (Some (c.args.port, c.args.tag))
-        c.self.invariant c.index_mut-at.ensures.value (ap port_items c.reserve.ensures.same) c.reserve_tag.ensures.same
-        (ready-set i.ports.items c.args.port c.args.tag c.reserve.new.self c.in_ok-reserve.ensures.ok) (λ r e. c.in_ok-reserve_tag.ensures.ok)
+    c.self.invariant c.index_mut-at.ensures.value (ap port_items c.reserve.ensures.same) c.reserve_tag.ensures.same
+    (ready-set i.ports.items c.args.port c.args.tag c.reserve.new.self c.in_ok-reserve.ensures.ok) (λ r e. c.in_ok-reserve_tag.ensures.ok)
 
 pub returns-clause-same : goal.returns-clause-same
 returns-clause-same c =

@@ -68,4 +68,4 @@ returns-clause-port c =
     let slot : place - i.base ≡ t.slot = omega arith in
     let made : List Item → RoomyPort = λ is. record { items = is; ready = None } in
     ap made (c.drop_holes-self-inside.ensures.items ∙ ap filled c.take_slot-item.ensures.slots ∙ ap (λ (k : ℕ). filled (slice_set i.slots.items k None)) slot ∙ t.left
-        ∙ ap (λ (v : RoomyPort). drop_first (has_tag c.args.tag) v.items) c.self.view_is)
+    ∙ ap (λ (v : RoomyPort). drop_first (has_tag c.args.tag) v.items) c.self.view_is)
