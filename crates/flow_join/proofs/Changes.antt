@@ -55,11 +55,11 @@ module _ {X : Type 0} where
       by_test : (b : Bool) → q x ≡ b → (b && list_all q xs) ≡ true → (q (f x) && list_all q xs) ≡ true
       by_test true e all = ap (λ (b : Bool). b && list_all q xs) (h x e) ∙ all
       by_test false e all = absurd (true≢false (sym all))
-  all-change-true q f h (suc k) (x ∷ xs) all = by_test (q x) all
+  all-change-true q f h (suc k) (x ∷ xs) all = by_test (q x) all (all-change-true q f h k xs)
     where
-      by_test : (b : Bool) → (b && list_all q xs) ≡ true → (b && list_all q (change_at f k xs)) ≡ true
-      by_test true all = all-change-true q f h k xs all
-      by_test false all = all
+      by_test : (b : Bool) → (b && list_all q xs) ≡ true → (list_all q xs ≡ true → list_all q (change_at f k xs) ≡ true) → (b && list_all q (change_at f k xs)) ≡ true
+      by_test true all later = later all
+      by_test false all later = all
 
   pub all-map : (q : X → Bool) (f : X → X) → ((x : X) → q (f x) ≡ q x) → (xs : List X) → list_all q (map f xs) ≡ list_all q xs
   all-map q f h [] = refl
@@ -67,12 +67,12 @@ module _ {X : Type 0} where
 
   pub all-at : (q : X → Bool) (xs : List X) (i : ℕ) (x : X) → list_all q xs ≡ true → slice_get xs i ≡ Some x → q x ≡ true
   all-at q [] i x all at = cc
-  all-at q (y ∷ xs) i x all at = by_test (q y) refl all i at
+  all-at q (y ∷ xs) i x all at = by_test (q y) refl all i at (λ j. all-at q xs j x)
     where
-      by_test : (b : Bool) → q y ≡ b → (b && list_all q xs) ≡ true → (i : ℕ) → slice_get (y ∷ xs) i ≡ Some x → q x ≡ true
-      by_test true e all zero at = let same : y ≡ x = cc in subst (λ (z : X). q z ≡ true) same e
-      by_test true e all (suc i) at = all-at q xs i x all at
-      by_test false e all i at = absurd (true≢false (sym all))
+      by_test : (b : Bool) → q y ≡ b → (b && list_all q xs) ≡ true → (i : ℕ) → slice_get (y ∷ xs) i ≡ Some x → ((j : ℕ) → list_all q xs ≡ true → slice_get xs j ≡ Some x → q x ≡ true) → q x ≡ true
+      by_test true e all zero at later = let same : y ≡ x = cc in subst (λ (z : X). q z ≡ true) same e
+      by_test true e all (suc i) at later = later i all at
+      by_test false e all i at later = absurd (true≢false (sym all))
 
 module _ {X Y : Type 0} where
   pub get-map-get : (f : X → Y) (xs : List X) (i : ℕ) (x : X) → slice_get xs i ≡ Some x → slice_get (map f xs) i ≡ Some (f x)

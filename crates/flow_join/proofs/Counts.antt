@@ -14,6 +14,12 @@ not-less x y h = ltb-false x y (by_tests (ltb x y) (eqb x y) h)
     by_tests true e h = h
     by_tests false e h = refl
 
+one-of : (b : Bool) → b ≡ true → ◌≡◌ {A = ℕ} (cond b 1 0) 1
+one-of b e = ap (λ (a : Bool). cond {A = ℕ} a 1 0) e
+
+none-of : (b : Bool) → b ≡ false → ◌≡◌ {A = ℕ} (cond b 1 0) 0
+none-of b e = ap (λ (a : Bool). cond {A = ℕ} a 1 0) e
+
 pub count-cons : (t : ℕ) (r : Reverse ℕ) (rs : List (Reverse ℕ)) → count_tag t (r ∷ rs) ≡ cond (nat_eq r.0 t) 1 0 + count_tag t rs
 count-cons t r rs = sum_by-cons (λ (q : Reverse ℕ). cond (nat_eq q.0 t) 1 0) r rs
 
@@ -28,12 +34,12 @@ pub top-counted : (x : Reverse ℕ) (rs : List (Reverse ℕ)) → 0 < length rs 
 top-counted x [] some at = absurd (omega arith)
 top-counted x (r ∷ rs) some at =
     let same : nat_eq r.0 x.0 ≡ true = eq-eqb r.0 x.0 (sym (ap (λ (q : Reverse ℕ). q.0) at)) in
-    let one : cond (nat_eq r.0 x.0) 1 0 ≡ 1 = ap (λ (b : Bool). cond b 1 0) same in
+    let one = one-of (nat_eq r.0 x.0) same in
     let more = count-cons x.0 r rs in
     omega arith
 
 pub popped-some : (x m k : ℕ) → m ≡ cond (nat_eq x x) 1 0 + k → 0 < m
-popped-some x m k h = let one : cond (nat_eq x x) 1 0 ≡ 1 = ap (λ (b : Bool). cond b 1 0) (eq-eqb x x refl) in omega arith
+popped-some x m k h = let one = one-of (nat_eq x x) (eq-eqb x x refl) in omega arith
 
 -- an upper bound of the heap is the least tag
 pub least-of : (x : Reverse ℕ) (rs : List (Reverse ℕ)) → IsUpperBound least_first x rs → (t : ℕ) → 0 < count_tag t rs → x.0 ≤ t
@@ -43,11 +49,11 @@ least-of x (r ∷ rs) bound t some = by_test (nat_eq r.0 t) refl (least-of x rs 
     by_test : (b : Bool) → nat_eq r.0 t ≡ b → (0 < count_tag t rs → x.0 ≤ t) → x.0 ≤ t
     by_test true e later = subst (λ (u : ℕ). x.0 ≤ u) (eqb-true r.0 t e) (not-less r.0 x.0 bound.0)
     by_test false e later =
-        let none : cond (nat_eq r.0 t) 1 0 ≡ 0 = ap (λ (b : Bool). cond b 1 0) e in
+        let none = none-of (nat_eq r.0 t) e in
         let more = count-cons t r rs in
         later (omega arith)
 
-zero-case : (b : Bool) → cond b 0 0 ≡ 0
+zero-case : (b : Bool) → ◌≡◌ {A = ℕ} (cond b 0 0) 0
 zero-case true = refl
 zero-case false = refl
 

@@ -17,8 +17,8 @@ returns-in_err-reserve-clause-same c =
     let same = reserved-items i.ports.items c.args.port c.index_mut-at.result.now c.reserve.new.self i.complete i.complete None None c.index_mut-at.ensures.value (ap port_items c.reserve.ensures.same) in
     ap made (same ∙ ap (λ (v : RoomyKeyJoin). v.ports) c.self.view_is)
 
-pub invariant_of-self : goal.invariant_of-self
-invariant_of-self c =
+pub invariant_of-self-2 : goal.invariant_of-self-2
+invariant_of-self-2 c =
     let i = c.self.inside in
     keeps-reserved i.ports.items c.args.port c.index_mut-at.result.now c.reserve.new.self i.complete c.reserve_tag.new.heap i.ready_for (Some (c.args.port, c.args.tag))
     c.self.invariant c.index_mut-at.ensures.value (ap port_items c.reserve.ensures.same) c.reserve_tag.ensures.same
