@@ -182,7 +182,7 @@ module _ (xss : List (List Item)) (ports : List RoomyPort) (i : ℕ) (p : RoomyP
 
 pub given-next : {X Y Z : Type 0} (g : X → Option Y) (f : Y → Z) (i : ℕ) (xs : List X) (x : X) (y : Y) → slice_get xs i ≡ Some x → g x ≡ Some y
     → map f (given_to g (i + 1) xs) ≡ map f (given_to g i xs) ++ f y ∷ []
-given-next g f i xs x y at e =
+given-next {Y = Y} g f i xs x y at e =
     let more : map f (given_to g (i + 1) xs) ≡ map f (given_to g i xs) ++ map f (option_list (g x)) = rw (add-one, given_to-step g i xs, at) (map-append f (given_to g i xs) (option_list (g x))) in
     more ∙ ap (λ (o : Option Y). map f (given_to g i xs) ++ map f (option_list o)) e
 
