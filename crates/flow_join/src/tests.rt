@@ -71,6 +71,30 @@ fn numbers(join: &mut KeyJoin, alloc: Global) -> Option<(u64, u64, u64)> {
     Some((tag, ids.get(0)?.no, ids.get(1)?.no))
 }
 
+fn arrives(join: &mut KeyJoin, port: u32, number: u64, tag: u64) -> Option<()> {
+    if port >= join.ports() {
+        return None;
+    }
+    let item = item(number, tag);
+    join.reserve(port, item.tag).ok()?;
+    join.accept(port, item);
+    Some(())
+}
+
+fn waits(join: &KeyJoin, port: u32, k: usize) -> Option<u64> {
+    if port >= join.ports() {
+        return None;
+    }
+    Some(join.at(port, k)?.id.no)
+}
+
+fn goes_next(join: &KeyJoin, port: u32) -> Option<u64> {
+    if port >= join.ports() {
+        return None;
+    }
+    Some(join.part(port)?.id.no)
+}
+
 #[test]
 fn least_tags_of_two_ports_match(rt: HostRuntime) -> Result<(), Fail> {
     let mut join = KeyJoin::new(rt.alloc(), 2).ok().ok_or("a join")?;
@@ -84,17 +108,16 @@ fn least_tags_of_two_ports_match(rt: HostRuntime) -> Result<(), Fail> {
         (1, 6, 5),
     ];
     for (port, number, tag) in arrivals {
-        join.reserve(port, tag).ok().ok_or("room")?;
-        join.accept(port, item(number, tag));
+        arrives(&mut join, port, number, tag).ok_or("room")?;
     }
-    assert_eq!(rt; join.part(1).map(|item| item.id.no), Some(5));
-    assert_eq!(rt; join.at(0, 2).map(|item| item.id.no), Some(4));
+    assert_eq!(rt; goes_next(&join, 1), Some(5));
+    assert_eq!(rt; waits(&join, 0, 2), Some(4));
     assert_eq!(rt; numbers(&mut join, rt.alloc()), Some((5, 1, 5)));
-    assert_eq!(rt; join.at(0, 1).map(|item| item.id.no), Some(4));
+    assert_eq!(rt; waits(&join, 0, 1), Some(4));
     assert_eq!(rt; numbers(&mut join, rt.alloc()), Some((5, 4, 6)));
     assert_eq!(rt; numbers(&mut join, rt.alloc()), Some((u64::MAX, 0, 3)));
-    assert!(rt; !join.ready() && join.part(0).is_none());
-    assert_eq!(rt; join.at(1, 0).map(|item| item.id.no), Some(2));
-    assert!(rt; join.at(1, 1).is_none());
+    assert!(rt; !join.ready() && goes_next(&join, 0).is_none());
+    assert_eq!(rt; waits(&join, 1, 0), Some(2));
+    assert!(rt; waits(&join, 1, 1).is_none());
     Ok(())
 }
