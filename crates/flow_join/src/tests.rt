@@ -61,3 +61,63 @@ fn one_port_gives_each_item(rt: HostRuntime) -> Result<(), Fail> {
     assert_eq!(rt; (ids.len(), join.len(0)), (1, 0));
     Ok(())
 }
+
+fn numbers(join: &mut KeyJoin, alloc: Global) -> Option<(u64, u64, u64)> {
+    let (mut ids, mut vals) = lists(alloc)?;
+    if !join.ready() || join.ports() > 2 {
+        return None;
+    }
+    let tag = join.form(&mut ids, &mut vals);
+    Some((tag, ids.get(0)?.no, ids.get(1)?.no))
+}
+
+fn arrives(join: &mut KeyJoin, port: u32, number: u64, tag: u64) -> Option<()> {
+    if port >= join.ports() {
+        return None;
+    }
+    let item = item(number, tag);
+    join.reserve(port, item.tag).ok()?;
+    join.accept(port, item);
+    Some(())
+}
+
+fn waits(join: &KeyJoin, port: u32, k: usize) -> Option<u64> {
+    if port >= join.ports() {
+        return None;
+    }
+    Some(join.at(port, k)?.id.no)
+}
+
+fn goes_next(join: &KeyJoin, port: u32) -> Option<u64> {
+    if port >= join.ports() {
+        return None;
+    }
+    Some(join.part(port)?.id.no)
+}
+
+#[test]
+fn least_tags_of_two_ports_match(rt: HostRuntime) -> Result<(), Fail> {
+    let mut join = KeyJoin::new(rt.alloc(), 2).ok().ok_or("a join")?;
+    let arrivals = [
+        (0, 0, u64::MAX),
+        (0, 1, 5),
+        (1, 2, 9),
+        (1, 3, u64::MAX),
+        (0, 4, 5),
+        (1, 5, 5),
+        (1, 6, 5),
+    ];
+    for (port, number, tag) in arrivals {
+        arrives(&mut join, port, number, tag).ok_or("room")?;
+    }
+    assert_eq!(rt; goes_next(&join, 1), Some(5));
+    assert_eq!(rt; waits(&join, 0, 2), Some(4));
+    assert_eq!(rt; numbers(&mut join, rt.alloc()), Some((5, 1, 5)));
+    assert_eq!(rt; waits(&join, 0, 1), Some(4));
+    assert_eq!(rt; numbers(&mut join, rt.alloc()), Some((5, 4, 6)));
+    assert_eq!(rt; numbers(&mut join, rt.alloc()), Some((u64::MAX, 0, 3)));
+    assert!(rt; !join.ready() && goes_next(&join, 0).is_none());
+    assert_eq!(rt; waits(&join, 1, 0), Some(2));
+    assert!(rt; waits(&join, 1, 1).is_none());
+    Ok(())
+}
