@@ -248,6 +248,25 @@ fn run(alloc: Global, doc: &Doc, items: u64, events: u64) -> Result<Ran, Fail>
     Ok(Ran { answer, kept })
 }
 
+// How a run ended, with its nodes, and what it leaves.
+#[derive(Drop)]
+struct RanToNodes {
+    ending: Ending,
+    kept: Kept,
+}
+
+// Runs the document with the two bodies, and hands on the nodes.
+fn run_to_nodes(alloc: Global, doc: &Doc, items: u64, events: u64) -> Result<RanToNodes, Fail>
+    requires fits { doc_fits 2 doc.now ≡ true }
+    requires built { list_all is_built doc.now.shape.nodes ≡ true }
+    requires version { doc.now.version < 3 }
+{
+    let mut kept = nothing_kept(alloc);
+    let shelf = shelf_of(alloc, Box::new(alloc, Add)?, Box::new(alloc, FailMemory)?)?;
+    let ending = run_plain_with_nodes(alloc, doc, &shelf, items, events, &mut kept);
+    Ok(RanToNodes { ending, kept })
+}
+
 fn is_put(e: Option<&Event>) -> bool {
     match e {
         Some(
@@ -374,10 +393,7 @@ fn three_events_may_be_made(rt: HostRuntime) -> Result<(), Fail> {
 fn nodes_are_handed_on(rt: HostRuntime) -> Result<(), Fail> {
     let alloc = rt.alloc();
     let doc = two_queues(alloc)?;
-    let mut kept = nothing_kept(alloc);
-    let shelf = shelf_of(alloc, Box::new(alloc, Add)?, Box::new(alloc, FailMemory)?)?;
-    let ending = run_plain_with_nodes(alloc, &doc, &shelf, 2, 5, &mut kept);
-    kept.doc = Some(doc);
+    let RanToNodes { ending, kept } = run_to_nodes(alloc, &doc, 2, 5)?;
     assert_eq!(rt; kept.journal.len(), 5);
     assert!(rt; kept.refused.is_none());
     match ending {
