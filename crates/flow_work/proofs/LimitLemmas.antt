@@ -5,7 +5,7 @@ use Rattle.std.proofs.lemmas.Bool.{ltb-true}
 use Rattle.std.proofs.lemmas.Bool.Decides.{nat_tests}
 use Rattle.flow_item.specs.declared.event.Event.{Event}
 use Rattle.flow_item.specs.Events.{births_of, births}
-use Rattle.flow_work.specs.Promises.{IsWithinLimits}
+use Rattle.flow_laws.specs.Moments.{IsWithinLimits}
 use Rattle.flow_work.specs.Runs.{Run, with_event}
 use Rattle.flow_work.specs.Refusals.{meets_limit}
 

@@ -30,7 +30,8 @@ use Rattle.flow_fates.proofs.LineageLaw.{lineages-end}
 use Rattle.flow_fates.proofs.ReservationLaw.{one-reservation}
 use Rattle.flow_fates.proofs.NothingLeft.{nothing-held}
 use Rattle.flow_fates.proofs.BornParents.{parents-are-born}
-use Rattle.flow_work.specs.Promises.{AtEachStart, EdgesAgree, HoldsAgree, NodesWithinLimits, LedgerAddsUp, ItemsHaveOneFate, ItemsHaveLineages, HoldsReserve, NothingIsHeld, ParentsWereBorn, IsRefusedNext, KeepsBodies}
+use Rattle.flow_laws.specs.Moments.{AtEachStart, EdgesAgree, HoldsAgree, NodesWithinLimits, LedgerAddsUp}
+use Rattle.flow_work.specs.Promises.{ItemsHaveOneFate, ItemsHaveLineages, HoldsReserve, NothingIsHeld, ParentsWereBorn, IsRefusedNext, KeepsBodies}
 use Rattle.flow_node.specs.Readied.{Readied}
 use Rattle.flow_work.specs.Plain.{run_of, AreNodesAfter, Leaves}
 use Rattle.flow_work.specs.Tasks.{HasBodies, KeepsScripts, KeepsWaits}

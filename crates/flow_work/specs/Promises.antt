@@ -1,5 +1,5 @@
 -- What a run promises of what it leaves, on one thread or on several. Each is a fact of a journal alone.
-use Rattle.std.specs.Prelude.{◌≡◌, ℕ, ◌+◌, ◌<◌, ◌≤◌, Bool, true, false, Some, None, Result, Err, ⊤, List, [], ◌∷◌, ◌++◌, length, drop, slice_get}
+use Rattle.std.specs.Prelude.{◌≡◌, ℕ, ◌+◌, ◌<◌, Bool, true, false, Some, None, Result, Err, ⊤, List, [], ◌∷◌, ◌++◌, length, drop, slice_get}
 use Rattle.std.specs.List.{list_any}
 use Rattle.flow_item.specs.declared.item.Id.{Id}
 use Rattle.flow_item.specs.declared.item.Item.{Item}
@@ -8,20 +8,16 @@ use Rattle.flow_item.specs.declared.event.Event.TheVariants as E
 use Rattle.flow_item.specs.declared.event.Link.{Link}
 use Rattle.flow_item.specs.declared.event.Stop.{Stop}
 use Rattle.flow_item.specs.declared.event.Stop.TheVariants.{Limit}
-use Rattle.flow_item.specs.Lists.{map_places}
-use Rattle.flow_item.specs.Events.{births_of, births}
 use Rattle.flow_shape.specs.declared.Kind.{Kind}
 use Rattle.flow_shape.specs.declared.Shape.{Shape}
 use Rattle.flow_shape.specs.declared.Step.{Step}
 use Rattle.flow_shape.specs.declared.Step.TheVariants as T
 use Rattle.flow_shape.specs.Kinds.{is_single_push}
 use Rattle.flow_shape.specs.Wiring.{at_node}
-use Rattle.flow_machine.specs.Machine.{open_after, state_of, sum_of, modes_agree}
+use Rattle.flow_machine.specs.Machine.{open_after, state_of}
 use Rattle.flow_machine.specs.Scripts.{Sent, sent_of, script}
 use Rattle.flow_machine.specs.Schedule.{is_scheduled}
-use Rattle.flow_machine.specs.Ledger.{tally_of, gone_of, kept_items}
-use Rattle.flow_machine.specs.Reservations.{holds_match}
-use Rattle.flow_machine.specs.Limits.{limits_kept, passes_limit}
+use Rattle.flow_machine.specs.Limits.{passes_limit}
 use Rattle.flow_machine.specs.Bodies.{Meanings, bodies_kept}
 use Rattle.flow_fates.specs.Laws.{HasOneFate, HasLineage}
 use Rattle.flow_fates.specs.Lineage.{numbered, is_born, all_parents}
@@ -54,11 +50,6 @@ HeedsWaits shape scripts es =
 
 -- ---- limits
 
--- there are at most `events` events, and before each event that bears items fewer than `items` were born
-pub record IsWithinLimits (items events : ℕ) (es : List Event) : Type 0 where
-  pub few : length es ≤ events
-  pub room : (before : List Event) (e : Event) (later : List Event) → es ≡ before ++ e ∷ later → 0 < births_of e → births before < items
-
 -- after these events the event may come next, passes a limit, and keeps the scripts
 pub record IsRefusedAfter (shape : Shape) (scripts : List (List Step)) (workers items events : ℕ) (es : List Event) (e : Event) : Type 0 where
   pub passes : passes_limit shape (length scripts) workers items events es e ≡ true
@@ -74,27 +65,6 @@ is_limit (Err Limit) = true
 is_limit answer = false
 
 -- ---- at each moment of the run
-
--- it holds at each prefix of the journal
-abbrev pub AtEachStart : (List Event → Type 0) → List Event → Type 0
-AtEachStart Holds es = (before later : List Event) → es ≡ before ++ later → Holds before
-
--- both ends of each edge agree whether it is in push or in pull
-abbrev pub EdgesAgree : Shape → List Event → Type 0
-EdgesAgree shape es = modes_agree shape es ≡ true
-
--- both ends of each edge hold the same items, each once
-abbrev pub HoldsAgree : Shape → List Event → Type 0
-HoldsAgree shape es = holds_match shape es ≡ true
-
--- ready and running bodies are within each node's limit, counts and hands within each threshold
-abbrev pub NodesWithinLimits : Shape → List Event → Type 0
-NodesWithinLimits shape es = limits_kept shape es ≡ true
-
--- what came to each node went out, was eaten, lost or written over, or is kept there, and what came to all nodes was born
-pub record LedgerAddsUp (shape : Shape) (es : List Event) : Type 0 where
-  pub each : (n : ℕ) (k : Kind) → slice_get shape.nodes n ≡ Some k → (tally_of n k es).came ≡ gone_of (tally_of n k es) + length (kept_items (state_of shape n k es).part)
-  pub all : sum_of (map_places (λ n k. (tally_of n k es).came) 0 shape.nodes) ≡ births es
 
 -- each item that was born has exactly one fate, or its node keeps it once
 abbrev pub ItemsHaveOneFate : Shape → List Event → Type 0
