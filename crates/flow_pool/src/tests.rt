@@ -146,20 +146,26 @@ impl<'a> Runner<'a> {
     }
 }
 
+// A runner that took nothing so far.
+fn fresh_runner<'a>(pool: &'a Pool, post: Post) -> Runner<'a>
+    requires { IsPostOf pool.now post × (pool.now.nodes ≡ 1000) }
+{
+    Runner { pool, post, sum: 0 }
+}
+
 // Two posts in two threads: the nodes that they take are together those that they put in.
 fn two_threads<R: Threads + Wait + Abort + Sync>(
     rt: &R,
     alloc: Global,
     pool: &Pool,
-    posts: Vec<Post>,
+    first: Post,
+    second: Post,
 )
-    requires { All (IsPostOf pool.now) posts.items × (pool.now.nodes ≡ 1000) }
+    requires { IsPostOf pool.now first × IsPostOf pool.now second × (pool.now.nodes ≡ 1000) }
 {
     let mut runners = Vec::new(alloc);
-    for post in posts {
-        let runner = Runner { pool, post, sum: 0 };
-        assert!(rt; runners.push(runner).is_ok());
-    }
+    assert!(rt; runners.push(fresh_runner(pool, first)).is_ok());
+    assert!(rt; runners.push(fresh_runner(pool, second)).is_ok());
     thread::for_each_mut(
         rt,
         runners.as_mut_slice(),
@@ -167,7 +173,7 @@ fn two_threads<R: Threads + Wait + Abort + Sync>(
         &|_, runner: &mut Runner| { runner.run(rt) },
     );
     let mut sum = 0u64;
-    for runner in runners {
+    for runner in &runners {
         sum = sum.wrapping_add(runner.sum);
     }
     assert!(rt; sum == 999000);
@@ -175,7 +181,9 @@ fn two_threads<R: Threads + Wait + Abort + Sync>(
 
 #[test]
 fn two_threads_take_what_they_put_in(rt: HostRuntime) -> Result<(), Fail> {
-    let (pool, posts) = opened(&rt, rt.alloc(), 2);
-    two_threads(&rt, rt.alloc(), &pool, posts);
+    let (pool, mut posts) = opened(&rt, rt.alloc(), 2);
+    let second = last_post(&rt, &pool, &mut posts);
+    let first = last_post(&rt, &pool, &mut posts);
+    two_threads(&rt, rt.alloc(), &pool, first, second);
     Ok(())
 }
