@@ -1,5 +1,5 @@
 use Rattle.std.proofs.Common.{◌∙◌, ap}
-use Rattle.flow_pool.proofs.Keeping.{takes, finds_few}
+use Rattle.flow_pool.proofs.Keeping.{takes}
 use Rattle.flow_pool.proofs.queues.steal.Goals as goal
 
 pub steal_as-requires-clause-takes : goal.steal_as-requires-clause-takes
