@@ -1,6 +1,6 @@
 -- Each step of a queue keeps its rule.
 use Rattle.std.proofs.Common.{◌≡◌, ◌≢◌, Bool, ℕ, zero, suc, ◌+◌, ◌<◌, ◌⊎◌, true, false, true≢false, List, [], ◌∷◌, ◌++◌, All, length, get_or, set, sym, refl, ap, ◌∙◌, subst, inl, inr, ⊎_elim, arith}
-use Rattle.std.specs.List.{sum_by, count_by}
+use Rattle.std.specs.List.{sum_by}
 use Rattle.std.proofs.lemmas.List.Sums.{sum_by-set, sum_by-append, sum_by_push}
 use Rattle.std.proofs.lemmas.List.Elements.{All-append, All-take, All-drop, All-nil, All-weaker}
 use lib.Seq.{take-append_seam, drop-append_seam}
@@ -9,7 +9,7 @@ use lib.ListN.{get_elem?}
 use Rattle.crossbeam_deque.specs.Tasks.{Pushes, Takes, Finds, FindsFew, Forks}
 use Rattle.crossbeam_deque.proofs.Lists.{at_set}
 use Rattle.flow_pool.specs.declared.hand.Hand.{Hand}
-use Rattle.flow_pool.specs.Rule.{hand, copies, all_pushed, all_taken, first, idle, opened, sharing, shared, pushed, taken, Balances, SawEmpty}
+use Rattle.flow_pool.specs.Rule.{copies, first, idle, opened, sharing, shared, pushed, taken, Balances, SawEmpty}
 
 within : {A : Type 0} (l : List A) (i : ℕ) (a : A) → get_elem? l i ≡ some a → (i < length l) × (get_or l i a ≡ a)
 within [] i a e = absurd (some-ne-none a (sym e))

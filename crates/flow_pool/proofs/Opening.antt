@@ -1,5 +1,5 @@
 -- How a pool and its posts are made.
-use Rattle.std.proofs.Common.{◌≡◌, ◌≢◌, ℕ, ◌+◌, ◌<◌, true, List, [], ◌∷◌, ◌++◌, All, Global, length, map, get_or, set, refl, sym, ap, ◌∙◌, subst, arith}
+use Rattle.std.proofs.Common.{◌≡◌, ℕ, ◌+◌, ◌<◌, true, List, [], ◌∷◌, ◌++◌, All, Global, length, map, get_or, set, sym, ap, ◌∙◌, subst, arith}
 use Rattle.std.specs.List.{HoldsAt}
 use Rattle.std.proofs.lemmas.List.{length-set, length-append, length-map}
 use Rattle.std.proofs.lemmas.List.Elements.{at_read, All-cons, All-map, All-weaker}
@@ -11,7 +11,7 @@ use Rattle.flow_pool.specs.declared.hand.Fair.{Fair}
 use Rattle.flow_pool.specs.declared.post.Post.{Post}
 use Rattle.flow_pool.specs.declared.pool.Pool.{Pool}
 use Rattle.flow_pool.specs.Rule.{sharing}
-use Rattle.flow_pool.specs.Posts.{Each, after, hands, IsTold, IsPostOf, AreReaches}
+use Rattle.flow_pool.specs.Posts.{Each, after, hands, IsTold, AreReaches}
 use Rattle.flow_pool.specs.Opening.{IsFresh, IsOpened, IsReached, IsBegun, AreBegun, IsSeated}
 use Rattle.flow_pool.proofs.Places.{each_push, each_set, each_set_but, each_at}
 

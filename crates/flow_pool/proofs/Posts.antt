@@ -1,5 +1,5 @@
 -- A post stays one of its pool while its hands change.
-use Rattle.std.proofs.Common.{◌≡◌, ℕ, ◌+◌, ◌<◌, true, List, [], ◌∷◌, All, Result, Ok, Err, OnOk, OnErr, length, map, get_or, sym, ap, ◌∙◌, subst, refl, arith, ◌≤◌}
+use Rattle.std.proofs.Common.{◌≡◌, ℕ, ◌<◌, true, List, [], ◌∷◌, All, Result, Ok, Err, OnOk, OnErr, length, map, get_or, sym, ap, ◌∙◌, subst, refl, arith}
 use Rattle.std.proofs.lemmas.List.Elements.{All-nil, All-cons, All-head, All-tail, All-weaker, All-same, All-map}
 use Rattle.crossbeam_deque.specs.Handles.{Pass, view, stealer_deque, worker_view, SameWorker}
 use Rattle.crossbeam_deque.specs.Injected.{injector_view, IsInjectorPassOf}

@@ -1,5 +1,5 @@
 -- A pool at its start.
-use Rattle.std.specs.Prelude.{ℕ, ◌≡◌, ◌<◌, true, List, [], All, length}
+use Rattle.std.specs.Prelude.{ℕ, ◌≡◌, true, List, [], All, length}
 use Rattle.std.specs.List.{HoldsAt}
 use Rattle.crossbeam_deque.specs.Handles.{view, stealer_deque, stealer_flavor, worker_deque, worker_flavor, worker_view}
 use Rattle.crossbeam_deque.specs.Injected.{injector_view, IsInjectorPassOf}

@@ -1,5 +1,5 @@
 -- What a clause says of a post and of its pool.
-use Rattle.std.specs.Prelude.{ℕ, ◌≡◌, ◌+◌, ◌-◌, ◌<◌, Bool, true, false, List, [], ◌∷◌, All, Option, MatchOption, length, map, take, slice_set, slice_index_or, nat_lt, if◌then◌else◌}
+use Rattle.std.specs.Prelude.{ℕ, ◌≡◌, ◌+◌, ◌-◌, ◌<◌, true, List, [], ◌∷◌, All, Option, MatchOption, length, map, take, slice_set, slice_index_or, nat_lt, if◌then◌else◌}
 use Rattle.std.specs.List.{HoldsAt}
 use Rattle.crossbeam_deque.specs.declared.handles.Stealer.{Stealer}
 use Rattle.crossbeam_deque.specs.Handles.{Pass, view, IsPassOf, stealer_deque, stealer_flavor, worker_deque, worker_flavor, worker_view}

@@ -3,13 +3,17 @@ use crossbeam_deque::protocol::{Outcome, Protocol, Split};
 use std::collections::LinkedList;
 use std::marker::{Brand, PhantomData};
 
-/// What a post pushed to a queue and took from it. The nodes of the pool are those below `nodes`, once it was told so.
-/// Who is alone knows that nobody else has pushed or taken. No value of it is made.
+/// What a post pushed to a queue and took from it. No value of it is made: it is in the proofs alone.
 pub struct Hand {
+    /// It was told how many nodes there are.
     pub told: bool,
+    /// Nobody else has pushed or taken.
     pub alone: bool,
+    /// The nodes are those below this number.
     pub nodes: u64,
+    /// What was pushed, in the order of the pushes.
     pub pushed: LinkedList<u32>,
+    /// What was taken, in the order of the takes.
     pub taken: LinkedList<u32>,
 }
 

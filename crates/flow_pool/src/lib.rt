@@ -17,12 +17,13 @@
 //! from it is its hand there: it is in the proofs alone.
 #![tactic(auto)]
 
+mod deque;
+mod entrance;
 mod hand;
 mod law;
 mod open;
 mod pool;
 mod post;
-mod queues;
 
 pub use hand::{Fair, Hand};
 pub use law::who_is_alone_took_all;

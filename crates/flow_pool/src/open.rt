@@ -7,11 +7,10 @@ ghost use Rattle.flow_pool.specs.Rule.{opened};
 ghost use Rattle.flow_pool.specs.Posts.{AreReaches, Each};
 ghost use Rattle.flow_pool.specs.Opening.{IsFresh, IsOpened, IsReached, AreBegun, IsSeated};
 
+use crate::deque::{Reach, open_deque, share_deque};
+use crate::entrance::{Entrance, Entry, give_entrance, share_entrance};
 use crate::pool::Pool;
 use crate::post::{Post, place_after};
-use crate::queues::{
-    Entrance, Entry, Reach, give_entrance, open_deque, share_deque, share_entrance,
-};
 use flow_item::NoMemory;
 use std::alloc::Global;
 

@@ -7,10 +7,11 @@ ghost use Rattle.flow_pool.specs.Rule.{pushed};
 ghost use Rattle.flow_pool.specs.Posts.{hands, Each, IsPostOf, AreReaches, AreTold, HasAskedAll};
 ghost use Rattle.flow_pool.specs.Opening.{IsSeated};
 
+use crate::deque::{Reach, Thief};
+use crate::entrance::{Entrance, Entry};
 use crate::open::{add_thieves, open_posts, seat_posts};
 use crate::post::{Post, ask_others};
-use crate::queues;
-use crate::queues::{Entrance, Entry, Reach, Thief};
+use crate::{deque, entrance};
 use flow_item::NoMemory;
 use std::alloc::Global;
 use std::sync::Wait;
@@ -18,8 +19,10 @@ use std::sync::Wait;
 /// The queues of all posts as the others reach them, and the entrance.
 #[derive(Drop)]
 pub struct Pool {
+    // How the queue of the post at each place is reached.
     pub(crate) thieves: Vec<Thief>,
     pub(crate) entrance: Entrance,
+    // The nodes are those below this number.
     pub(crate) nodes: u32,
 }
 
@@ -29,7 +32,7 @@ impl Pool {
     pub fn new(alloc: Global, posts: u32, nodes: u32) -> Result<(Pool, Vec<Post>), NoMemory>
         ensures { IfOk result (λ r. (r.0.nodes ≡ nodes) × (length r.1.items ≡ posts) × (length r.0.thieves.items ≡ posts) × Each (IsSeated r.0) r.1.items) }
     {
-        let (entrance, entry) = queues::open_entrance(alloc, nodes)?;
+        let (entrance, entry) = entrance::open_entrance(alloc, nodes)?;
         let mut pool = Pool {
             thieves: Vec::new(alloc),
             entrance,
@@ -51,7 +54,7 @@ impl Pool {
         ensures pushed { (h : Hand) → OnOk result (hands post.new ≡ slice_set (hands post.old) 0 (pushed (node ∷ []) (slice_index_or (hands post.old) 0 h))) }
         ensures refused { OnErr result (hands post.new ≡ hands post.old) }
     {
-        queues::push(&mut post.own, node)
+        deque::push(&mut post.own, node)
     }
 
     /// Puts the node at the end of the entrance. Want of memory is its one error, as at `push`. It waits only for
@@ -63,7 +66,7 @@ impl Pool {
         ensures pushed { (h : Hand) → OnOk result (hands post.new ≡ slice_set (hands post.old) 1 (pushed (node ∷ []) (slice_index_or (hands post.old) 1 h))) }
         ensures refused { OnErr result (hands post.new ≡ hands post.old) }
     {
-        queues::inject(rt, &self.entrance, &mut post.entry, node)
+        entrance::inject(rt, &self.entrance, &mut post.entry, node)
     }
 
     /// Takes a node out of the pool. It asks the post's own queue, then the entrance, and then the queue of each other
@@ -76,7 +79,7 @@ impl Pool {
         ensures asked { HasAskedAll result (hands post.old) (hands post.new) }
         ensures node { IfSome result (λ x. x < self.now.nodes) }
     {
-        match queues::pop(&mut post.own) {
+        match deque::pop(&mut post.own) {
             Some(node) => Some(node),
             None => self.take_elsewhere(rt, post.place, &mut post.entry, &mut post.reaches),
         }
@@ -98,7 +101,7 @@ impl Pool {
         ensures same { IsInjectorPassOf self.now.entrance entry.new × AreReaches self.now.thieves.items place reaches.new.items }
         ensures asked { HasAskedAll result (injector_view entry.old ∷ map view reaches.old.items) (injector_view entry.new ∷ map view reaches.new.items) }
     {
-        match queues::enter(rt, &self.entrance, entry) {
+        match entrance::enter(rt, &self.entrance, entry) {
             Some(node) => Some(node),
             None => ask_others(rt, &self.thieves, place, reaches),
         }

@@ -3,15 +3,20 @@ ghost use Rattle.std.specs.Prelude.{◌≡◌, ◌+◌, ◌<◌, ◌≢◌, All,
 ghost use Rattle.crossbeam_deque.specs.Handles.{view, stealer_flavor};
 ghost use Rattle.flow_pool.specs.Posts.{after, AreReaches, AreTold, HasAskedAll, HasAskedAt};
 
-use crate::queues::{Deque, Entry, Reach, Thief, steal};
+use crate::deque::{Deque, Reach, Thief, steal};
+use crate::entrance::Entry;
 use std::sync::Wait;
 
 /// The place of a worker or a caller in the pool: a queue of its own, and a hand in each queue.
 #[derive(Drop)]
 pub struct Post {
+    // Its number among the posts.
     pub(crate) place: usize,
+    // Its own queue, with its hand there.
     pub(crate) own: Deque,
+    // Its hand at the entrance.
     pub(crate) entry: Entry,
+    // Its hand in the queue of each other post, in the order in which it asks them. A hand has no bytes.
     pub(crate) reaches: Vec<Reach>,
 }
 

@@ -1,7 +1,7 @@
-use Rattle.std.proofs.Common.{◌≡◌, ◌≢◌, ◌∙◌, ◌+◌, ◌<◌, ◌==◌, true, false, List, [], ◌∷◌, ◌++◌, All, length, refl, sym, ap, subst, eq-eqb, ne_eqb, arith}
+use Rattle.std.proofs.Common.{◌≡◌, ◌∙◌, ◌+◌, List, [], ◌∷◌, length, refl, sym, ap, subst, eq-eqb, ne_eqb, arith}
 use Rattle.std.proofs.lemmas.List.{length-append}
 use Rattle.std.proofs.lemmas.List.Elements.{All-same, All-nil}
-use Rattle.crossbeam_deque.specs.Handles.{view, worker_view}
+use Rattle.crossbeam_deque.specs.Handles.{view}
 use Rattle.flow_pool.specs.declared.hand.Hand.{Hand}
 use Rattle.flow_pool.specs.declared.post.Post.{Post}
 use Rattle.flow_pool.specs.Posts.{Each}

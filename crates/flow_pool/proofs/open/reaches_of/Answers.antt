@@ -1,7 +1,7 @@
-use Rattle.std.proofs.Common.{◌≡◌, ◌∙◌, ◌+◌, ◌<◌, List, [], ◌∷◌, ◌++◌, All, length, refl, sym, ap, subst, arith}
+use Rattle.std.proofs.Common.{◌≡◌, ◌∙◌, ◌+◌, ◌<◌, List, [], ◌∷◌, All, length, refl, sym, ap, subst, arith}
 use Rattle.std.proofs.lemmas.List.{length-append}
 use Rattle.std.proofs.lemmas.List.Elements.{All-push}
-use Rattle.crossbeam_deque.specs.Handles.{view, worker_view}
+use Rattle.crossbeam_deque.specs.Handles.{view}
 use Rattle.flow_pool.specs.Posts.{Each, after}
 use Rattle.flow_pool.specs.Opening.{IsFresh, IsBegun}
 use Rattle.flow_pool.proofs.Opening.{Reach, ReachesAfter, begun_again, has_reaches, reaches_more}

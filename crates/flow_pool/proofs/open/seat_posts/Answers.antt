@@ -1,4 +1,4 @@
-use Rattle.std.proofs.Common.{◌≡◌, ◌∙◌, ◌+◌, ◌<◌, length, refl, sym, arith}
+use Rattle.std.proofs.Common.{◌≡◌, ◌∙◌, ◌<◌, length, refl, sym, arith}
 use Rattle.std.proofs.lemmas.List.{length-set}
 use Rattle.flow_pool.proofs.Opening.{begun_with, seats_stay, seats_more, seated}
 use Rattle.flow_pool.proofs.open.seat_posts.Goals as goal

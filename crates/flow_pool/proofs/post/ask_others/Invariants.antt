@@ -1,4 +1,4 @@
-use Rattle.std.proofs.Common.{◌≡◌, All, length, map, take}
+use Rattle.std.proofs.Common.{◌≡◌, All, map, take}
 use Rattle.crossbeam_deque.specs.Handles.{view}
 use Rattle.flow_pool.specs.Rule.{SawEmpty}
 use Rattle.flow_pool.specs.Posts.{AreReaches, AreTold}

@@ -1,4 +1,4 @@
-use Rattle.flow_pool.proofs.Asking.{asked_first, asked_later}
+use Rattle.flow_pool.proofs.Asking.{asked_later}
 use Rattle.flow_pool.proofs.pool.Pool.take_elsewhere.Goals as goal
 
 pub returns-in-None-clause-asked : goal.returns-in-None-clause-asked

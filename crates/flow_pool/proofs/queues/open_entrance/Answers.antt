@@ -1,5 +1,0 @@
-use Rattle.flow_pool.proofs.Keeping.{starts}
-use Rattle.flow_pool.proofs.queues.open_entrance.Goals as goal
-
-pub new_as-requires : goal.new_as-requires
-new_as-requires c = starts

@@ -1,5 +1,0 @@
-use Rattle.flow_pool.proofs.Keeping.{share}
-use Rattle.flow_pool.proofs.queues.share_deque.Goals as goal
-
-pub another-requires : goal.another-requires
-another-requires c = share _ _ c.requires

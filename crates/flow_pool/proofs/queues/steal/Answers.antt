@@ -1,6 +1,0 @@
-use Rattle.std.proofs.Common.{◌∙◌, ap}
-use Rattle.flow_pool.proofs.Keeping.{takes, finds_few}
-use Rattle.flow_pool.proofs.queues.steal.Goals as goal
-
-pub steal_as-requires-clause-takes : goal.steal_as-requires-clause-takes
-steal_as-requires-clause-takes g c = takes _ _ 1 (ap (λ h. h.told) c.loop.invariant.1 ∙ c.requires.told)
