@@ -1,6 +1,6 @@
-//! What a node has beside what all kinds have: one variant for each kind.
+//! What a node has beside what all kinds have: one variant for each kind, or for kinds that are alike.
 
-ghost use Rattle.std.specs.Prelude.{◌≡◌, ℕ, Bool, List, ◌≤◌, ◌+◌, ◌∷◌, [], true, false, Some, None, if◌then◌else◌, not, length, map, min, slice_get, OnOk, OnErr, IfOk};
+ghost use Rattle.std.specs.Prelude.{◌≡◌, ℕ, List, ◌<◌, ◌≤◌, ◌+◌, ◌^◌, ◌∷◌, [], true, false, if◌then◌else◌, not, length, map, slice_get, OnOk, IfOk};
 ghost use Rattle.std.specs.List.{list_any, list_all, find};
 ghost use Rattle.std.specs.Option.{option_copied};
 ghost use Rattle.flow_item.specs.Lists.{first, is_empty};
@@ -8,34 +8,36 @@ ghost use Rattle.flow_item.specs.Values.{same_item};
 ghost use Rattle.flow_shape.specs.Kinds.{is_discarding};
 ghost use Rattle.flow_shape.specs.Rules.{has_good_limit};
 ghost use Rattle.flow_machine.specs.State.{casts_of, start_part, offer};
-ghost use Rattle.flow_machine.specs.Offers.{candidates, room, lands, offer_end};
+ghost use Rattle.flow_machine.specs.Offers.{candidates, room, offer_end};
 ghost use Rattle.flow_machine.specs.Enabled.{is_numbered};
 ghost use Rattle.flow_machine.specs.After.{part_after_arrival, part_after_give, part_after_refuse, part_after_start, part_after_end, part_after_shut, part_after_cancel};
 ghost use Rattle.flow_machine.specs.OpenParts.{open_bodies, open_holds};
 ghost use Rattle.flow_machine.specs.PrintOrder.{items_in_order};
 ghost use Rattle.flow_machine.specs.Wishes.{offer_wish, shut_wish, start_wish, is_ready};
 ghost use Rattle.flow_node.specs.Built.{is_built};
-ghost use Rattle.flow_node.specs.Readied.{keeps_given, runs_bodies};
-ghost use Rattle.flow_node.specs.Parts.{cast_in};
-ghost use Rattle.flow_node.specs.Kept.{kind_of, part_of, spare_of, coming_of, is_whole, place_of, state_of, Steps};
-ghost use Rattle.flow_node.specs.NodeViews.{present_items, ticket_items, running_items, first_ready, room_seen, is_by_caller};
+ghost use Rattle.flow_node.specs.Readied.{suits, runs_bodies};
+ghost use Rattle.flow_node.specs.Parts.{cast_in, takes_in};
+ghost use Rattle.flow_node.specs.Kept.{kind_of, part_of, spare_of, ready_for_of, coming_of, is_whole, is_counted, place_of, state_of, Steps};
+ghost use Rattle.flow_node.specs.NodeViews.{present_items, ticket_items, running_items, first_ready, room_seen};
 ghost use Rattle.flow_shape.specs.declared.Wire.{Wire};
 ghost use Rattle.flow_item.specs.declared.item.Msg.{Msg};
-ghost use Rattle.flow_node.specs.declared.base.Base.{Base};
+ghost use Rattle.flow_store.specs.Stores.{is_by_caller, tag_after};
 
+use crate::bar::Bar;
 use crate::base::Base;
 use crate::function::FunctionPart;
-use crate::queue::QueuePart;
-use crate::way::{Bar, Way};
-use flow_item::{Ended, Item, Land, NoMemory, Outs, Val};
+use crate::store::StorePart;
+use flow_item::{Ended, Item, Land, NoMemory, Outs};
 use flow_machine::Wish;
 use flow_shape::Kind;
+use flow_store::{BagStore, FifoStore, RankStore, SeqStore, Way};
 use std::alloc::Global;
 
 /// What a node has beside what all kinds have.
 #[derive(Drop)]
 pub(crate) enum Part {
-    Queue(QueuePart),
+    /// A queue, buffer, priority node or sequencer.
+    Store(StorePart),
     Function(FunctionPart),
 }
 
@@ -50,7 +52,14 @@ impl Part {
         ensures whole { IfOk result (λ p. (outs : List Wire) → is_whole outs p ≡ true) }
     {
         match kind {
-            Kind::Queue { .. } => Ok(Part::Queue(QueuePart::new(alloc))),
+            Kind::Queue { capacity } => Ok(Part::Store(StorePart::Queue(FifoStore::new(
+                alloc, *capacity,
+            )))),
+            Kind::Buffer { capacity } => Ok(Part::Store(StorePart::Buffer(BagStore::new(
+                alloc, *capacity,
+            )))),
+            Kind::Priority => Ok(Part::Store(StorePart::Priority(RankStore::new(alloc)))),
+            Kind::Sequencer => Ok(Part::Store(StorePart::Sequencer(SeqStore::new(alloc)))),
             Kind::Function {
                 limit,
                 body,
@@ -67,7 +76,7 @@ impl Part {
             ≡ first (candidates (place_of base.now self.now) (state_of base.now self.now) edge) }
     {
         match self {
-            Part::Queue(queue) => queue.front(),
+            Part::Store(store) => store.front(),
             Part::Function(function) => function.candidate(base, edge),
         }
     }
@@ -78,7 +87,7 @@ impl Part {
             ≡ find (is_numbered no) (candidates (place_of base.now self.now) (state_of base.now self.now) edge) }
     {
         match self {
-            Part::Queue(queue) => queue.offered(no),
+            Part::Store(store) => store.offered(no),
             Part::Function(function) => function.offered(base, edge, no),
         }
     }
@@ -88,7 +97,7 @@ impl Part {
         ensures { option_copied result ≡ find (is_numbered no) (present_items (part_of self.now)) }
     {
         match self {
-            Part::Queue(queue) => queue.item(no),
+            Part::Store(store) => store.item(no),
             Part::Function(function) => function.item(no),
         }
     }
@@ -98,7 +107,7 @@ impl Part {
         ensures { option_copied result ≡ first_ready (part_of self.now) }
     {
         match self {
-            Part::Queue(_) => None,
+            Part::Store(_) => None,
             Part::Function(function) => function.first_ready(),
         }
     }
@@ -108,7 +117,7 @@ impl Part {
         ensures { option_copied result ≡ find (is_numbered no) (running_items (part_of self.now)) }
     {
         match self {
-            Part::Queue(_) => None,
+            Part::Store(_) => None,
             Part::Function(function) => function.running(no),
         }
     }
@@ -118,7 +127,7 @@ impl Part {
         ensures { option_copied result ≡ slice_get (ticket_items (part_of self.now)) k }
     {
         match self {
-            Part::Queue(_) => None,
+            Part::Store(_) => None,
             Part::Function(function) => function.ticket(k),
         }
     }
@@ -129,30 +138,13 @@ impl Part {
             ≡ room (place_of base.now self.now) (state_of base.now self.now) port tag (is_by_caller way) }
     {
         let _ = base;
-        let _ = (port, tag, way);
+        let _ = port;
         match self {
-            Part::Queue(_) => Ok(Land::Kept),
+            Part::Store(store) => match store.room(tag, way) {
+                Ok(land) => Ok(land),
+                Err(cause) => Err(Bar::Cause(cause)),
+            },
             Part::Function(function) => Ok(function.land()),
-        }
-    }
-
-    /// How an item that an edge brings lands.
-    pub(crate) fn land(&self) -> Land
-        ensures { (base : Base) → (port tag : ℕ) → (by_caller : Bool) → room (place_of base self.now) (state_of base self.now) port tag by_caller ≡ lands result }
-    {
-        match self {
-            Part::Queue(_) => Land::Kept,
-            Part::Function(function) => function.land(),
-        }
-    }
-
-    /// Whether an item that the node gives stays there.
-    pub(crate) fn keeps_given(&self) -> bool
-        ensures { result ≡ keeps_given (part_of self.now) }
-    {
-        match self {
-            Part::Queue(_) => false,
-            Part::Function(_) => true,
         }
     }
 
@@ -161,7 +153,7 @@ impl Part {
         ensures { result ≡ length (coming_of self.now) }
     {
         match self {
-            Part::Queue(_) => 0,
+            Part::Store(_) => 0,
             Part::Function(function) => function.coming(),
         }
     }
@@ -173,7 +165,7 @@ impl Part {
     {
         let _ = base;
         match self {
-            Part::Queue(_) => 0,
+            Part::Store(store) => store.open_holds(),
             Part::Function(function) => function.open_bodies(),
         }
     }
@@ -183,7 +175,7 @@ impl Part {
         ensures { result ≡ is_ready (part_of self.now) }
     {
         match self {
-            Part::Queue(_) => false,
+            Part::Store(_) => false,
             Part::Function(function) => function.is_ready(),
         }
     }
@@ -194,7 +186,7 @@ impl Part {
             ≡ offer_wish (place_of base.now self.now) (state_of base.now self.now) base.now.push.items }
     {
         match self {
-            Part::Queue(queue) => queue.offer_wish(base),
+            Part::Store(store) => store.offer_wish(base),
             Part::Function(function) => function.offer_wish(base),
         }
     }
@@ -205,7 +197,7 @@ impl Part {
             ≡ shut_wish (offer (part_of self.now)) (offer_end (place_of base.now self.now) (state_of base.now self.now)) }
     {
         match self {
-            Part::Queue(_) => None,
+            Part::Store(_) => None,
             Part::Function(function) => function.shut_wish(base),
         }
     }
@@ -215,7 +207,7 @@ impl Part {
         ensures { result ≡ start_wish (part_of self.now) }
     {
         match self {
-            Part::Queue(_) => None,
+            Part::Store(_) => None,
             Part::Function(function) => function.start_wish(),
         }
     }
@@ -225,7 +217,7 @@ impl Part {
         ensures { result ≡ length (items_in_order (kind_of self.now) (part_of self.now)) }
     {
         match self {
-            Part::Queue(queue) => queue.len(),
+            Part::Store(store) => store.len(),
             Part::Function(_) => 0,
         }
     }
@@ -236,21 +228,34 @@ impl Part {
             ≡ slice_get (items_in_order (kind_of self.now) (part_of self.now)) k }
     {
         match self {
-            Part::Queue(queue) => queue.at(k),
+            Part::Store(store) => store.at(k),
             Part::Function(_) => None,
         }
     }
 }
 
 impl Part {
-    /// Makes room for one more item.
-    pub(crate) fn reserve(&mut self) -> Result<(), NoMemory>
+    /// Makes room for one more item, with this tag and at this port.
+    pub(crate) fn reserve(&mut self, port: u32, tag: u64) -> Result<(), NoMemory>
         ensures same { (outs : List Wire) → Steps outs self.old self.new (part_of self.old) (coming_of self.old) }
         ensures ok { OnOk result (1 ≤ spare_of self.new) }
+        ensures suits { OnOk result (suits (ready_for_of self.new) port tag ≡ true) }
+    {
+        let _ = port;
+        let _ = tag;
+        match self {
+            Part::Store(store) => store.reserve(),
+            Part::Function(function) => function.reserve(),
+        }
+    }
+
+    /// Brings the items in print order where `at` finds them sooner.
+    pub(crate) fn arrange(&mut self) -> Result<(), NoMemory>
+        ensures { (outs : List Wire) → Steps outs self.old self.new (part_of self.old) (coming_of self.old) }
     {
         match self {
-            Part::Queue(queue) => queue.reserve(),
-            Part::Function(function) => function.reserve(),
+            Part::Store(store) => store.arrange(),
+            Part::Function(_) => Ok(()),
         }
     }
 
@@ -259,7 +264,7 @@ impl Part {
         ensures { (outs : List Wire) → Steps outs self.old self.new (part_of self.old) [] }
     {
         match self {
-            Part::Queue(_) => {}
+            Part::Store(_) => {}
             Part::Function(function) => function.clear(),
         }
     }
@@ -274,38 +279,38 @@ impl Part {
             (map cast_in (coming_of self.new) ≡ (if runs_bodies (part_of self.old) then casts_of base.now.node number outs.now else [])) }
     {
         match self {
-            Part::Queue(_) => Ok(()),
+            Part::Store(_) => Ok(()),
             Part::Function(function) => function.expect(base, number, outs),
         }
     }
 
-    /// An item comes to a port.
-    pub(crate) fn arrive(&mut self, base: &Base, port: u32, item: Item)
-        requires { 1 ≤ spare_of self.old }
+    /// An item comes to a port, and isn't lost: it has the node's next number.
+    pub(crate) fn arrive(&mut self, base: &Base, port: u32, item: Item, way: Way)
+        requires spare { 1 ≤ spare_of self.old }
+        requires suits { suits (ready_for_of self.old) port item.tag ≡ true }
+        requires counted { is_counted base.now.made (part_of self.old) ≡ true }
+        requires number { item.id.no ≡ base.now.made }
+        requires taken { takes_in (room (place_of base.now self.old) (state_of base.now self.old) port item.tag (is_by_caller way)) ≡ true }
         ensures { Steps base.now.outs.items self.old self.new (part_after_arrival (place_of base.now self.old) base.now.push.items (part_of self.old) port item) (coming_of self.old) }
     {
         let _ = base;
         let _ = port;
         match self {
-            Part::Queue(queue) => queue.arrive(item),
+            Part::Store(store) => store.arrive(item, way),
             Part::Function(function) => function.arrive(item),
         }
     }
 
-    /// The item goes over an out edge: its value, where it leaves the node.
-    pub(crate) fn give(&mut self, base: &Base, edge: u32, item: &Item) -> Option<Val>
+    /// The item goes over an out edge.
+    pub(crate) fn give(&mut self, base: &Base, edge: u32, item: &Item)
         requires whole { is_whole base.now.outs.items self.old ≡ true }
+        requires fits { tag_after (kind_of self.old) (part_of self.old) < 2 ^ 64 }
         requires allowed { list_any (same_item item.now) (candidates (place_of base.now self.old) (state_of base.now self.old) edge) ≡ true }
-        ensures part { Steps base.now.outs.items self.old self.new (part_after_give (kind_of self.old) (part_of self.old) edge item.now.id.no) (coming_of self.old) }
-        ensures value { result ≡ (if keeps_given (part_of self.old) then None else Some item.now.val) }
+        ensures { Steps base.now.outs.items self.old self.new (part_after_give (kind_of self.old) (part_of self.old) edge item.now.id.no) (coming_of self.old) }
     {
-        let _ = item;
         match self {
-            Part::Queue(queue) => queue.depart(),
-            Part::Function(function) => {
-                function.give(base, edge);
-                None
-            }
+            Part::Store(store) => store.give(edge, item.id.no),
+            Part::Function(function) => function.give(base, edge),
         }
     }
 
@@ -316,7 +321,7 @@ impl Part {
         ensures { Steps base.now.outs.items self.old self.new (part_after_refuse (not (is_discarding (kind_of self.old))) (part_of self.old) edge) (coming_of self.old) }
     {
         match self {
-            Part::Queue(_) => {}
+            Part::Store(_) => {}
             Part::Function(function) => function.refuse(base, edge),
         }
     }
@@ -326,7 +331,7 @@ impl Part {
         ensures { result ≡ not (is_discarding (kind_of self.now)) }
     {
         match self {
-            Part::Queue(_) => true,
+            Part::Store(_) => true,
             Part::Function(_) => false,
         }
     }
@@ -336,7 +341,7 @@ impl Part {
         ensures { (outs : List Wire) → Steps outs self.old self.new (part_after_start (part_of self.old)) (coming_of self.old) }
     {
         match self {
-            Part::Queue(_) => {}
+            Part::Store(_) => {}
             Part::Function(function) => function.start(),
         }
     }
@@ -350,7 +355,7 @@ impl Part {
     {
         let _ = base;
         match self {
-            Part::Queue(_) => unreachable!(),
+            Part::Store(_) => unreachable!(),
             Part::Function(function) => function.end(no),
         }
     }
@@ -361,7 +366,7 @@ impl Part {
     {
         let _ = ended;
         match self {
-            Part::Queue(_) => {}
+            Part::Store(_) => {}
             Part::Function(function) => function.shut(),
         }
     }
@@ -371,7 +376,7 @@ impl Part {
         ensures { (outs : List Wire) → Steps outs self.old self.new (part_after_cancel (part_of self.old)) (coming_of self.old) }
     {
         match self {
-            Part::Queue(_) => {}
+            Part::Store(_) => {}
             Part::Function(function) => function.cancel(),
         }
     }

@@ -261,3 +261,39 @@ fn a_function_runs_its_bodies(rt: HostRuntime) -> Result<(), Fail> {
     assert!(rt; idle(&mut node)? && node.open_parts() == 0 && node.item(1).is_none());
     Ok(())
 }
+
+/// The values that go over edge 0 of a node after four puts, in three gives, and how many items are left.
+fn passed(
+    alloc: Global,
+    kind: Kind,
+) -> Result<(Option<i64>, Option<i64>, Option<i64>, usize), NoMemory>
+    requires built { is_built kind ≡ true }
+    requires limited { has_good_limit kind ≡ true }
+    requires callers { is_for_callers kind 0 ≡ true }
+{
+    let mut node = first_node(alloc, kind)?;
+    put(&mut node, 1, 5)?;
+    put(&mut node, 3, 9)?;
+    put(&mut node, 0, 7)?;
+    put(&mut node, 1, 8)?;
+    let first = number(give(alloc, &mut node, link(0, 1))?);
+    let second = number(give(alloc, &mut node, link(0, 1))?);
+    let third = number(give(alloc, &mut node, link(0, 1))?);
+    Ok((first, second, third, node.item_count()))
+}
+
+#[test]
+fn stores_pass_their_items_on(rt: HostRuntime) -> Result<(), Fail> {
+    let alloc = rt.alloc();
+    assert_eq!(rt;
+        passed(alloc, Kind::Queue { capacity: None })?,
+        (Some(5), Some(9), Some(7), 1)
+    );
+    assert_eq!(rt;
+        passed(alloc, Kind::Buffer { capacity: None })?,
+        (Some(5), Some(9), Some(7), 1)
+    );
+    assert_eq!(rt; passed(alloc, Kind::Priority)?, (Some(9), Some(8), Some(7), 1));
+    assert_eq!(rt; passed(alloc, Kind::Sequencer)?, (Some(7), Some(5), None, 1));
+    Ok(())
+}
