@@ -1,12 +1,15 @@
 -- A join's part: what waits at its ports, what it offers, and what its steps leave.
 use Rattle.std.proofs.Common.{◌≡◌, ℕ, zero, suc, ◌+◌, ◌<◌, ◌≤◌, Bool, true, false, not, ◌&&◌, ◌||◌, cond, ltb, eqb, Option, Some, None, List, [], ◌∷◌, ◌++◌, length, map, take, drop, refl, sym, ap, ◌∙◌, arith, eq-eqb}
-use Rattle.std.specs.Prelude.{slice_get, is_some, IfSome}
+use Rattle.std.specs.Prelude.{slice_get, is_some, is_none, IfSome}
 use Rattle.std.specs.Option.{option_map, unwrap_or}
 use Rattle.std.specs.List.{find, list_all}
 use Rattle.std.proofs.lemmas.List.{length-map, map-append}
 use Rattle.std.proofs.lemmas.Bool.{eqb-true}
 use Rattle.flow_item.specs.declared.item.Item.{Item}
 use Rattle.flow_item.specs.declared.item.Id.{Id}
+use Rattle.flow_item.specs.declared.val.Val.{Val}
+use Rattle.flow_item.specs.Values.{list_of}
+use Rattle.std.proofs.lemmas.Option.{same_Some}
 use Rattle.flow_item.specs.Rooms.{Roomy}
 use Rattle.flow_item.specs.declared.event.Ended.{Ended}
 use Rattle.flow_item.specs.declared.event.Ended.TheVariants as Z
@@ -16,8 +19,8 @@ use Rattle.flow_item.proofs.Places.{slice_get-below}
 use Rattle.flow_shape.specs.declared.Wire.{Wire}
 use Rattle.flow_shape.specs.Kinds.{is_keeping, is_discarding}
 use Rattle.flow_shape.specs.Places.{Place}
-use Rattle.flow_machine.specs.State.{NodeState, Cast, option_list, one_if, offer}
-use Rattle.flow_machine.specs.Offers.{candidates, cast_candidates, offer_end, slot_end, end_of_offer, is_met, when, cons_all, fronts, with_tag, least, common_tags, matching_parts, next_tuple}
+use Rattle.flow_machine.specs.State.{NodeState, Cast, option_list, one_if, offer, new_cast, item_of}
+use Rattle.flow_machine.specs.Offers.{candidates, cast_candidates, offer_end, slot_end, end_of_offer, is_met, when, cons_all, fronts, with_tag, least, common_tags, matching_parts, next_tuple, tag_of, tuple_of}
 use Rattle.flow_machine.specs.WishEvents.{where_some, id_of}
 use Rattle.flow_machine.specs.Ledger.{flattened}
 use Rattle.flow_machine.specs.Wishes.{shut_wish}
@@ -25,7 +28,8 @@ use Rattle.flow_machine.specs.declared.Wish.{Wish}
 use Rattle.flow_machine.specs.declared.Wish.TheVariants as W
 use Rattle.flow_cast.specs.Casts.{RoomyCast}
 use Rattle.flow_node.specs.Parts.{cast_in, edges_over, is_roomy}
-use Rattle.flow_node.specs.Joins.{JoinView, ports_of, rule_of, parts_of, ready_parts, suits, join_kind, join_part_of, is_slot_roomy, KeepsRoom}
+use Rattle.flow_node.specs.Joins.{JoinView, ports_of, rule_of, parts_of, ready_parts, tuple_in, join_kind, join_part_of, is_slot_roomy, tuple_cast, KeepsRoom}
+use Rattle.flow_node.specs.Readied.{suits}
 use Rattle.flow_node.specs.Kept.{place_with, state_with}
 use Rattle.flow_node.specs.declared.base.Base.{Base}
 use Rattle.flow_node.specs.declared.join.Inputs.{Inputs}
@@ -71,6 +75,12 @@ take-more (y ∷ ys) zero x h =
     ap (λ zs. y ∷ zs) (take-none ys) ∙ ap (λ z. z ∷ []) same
 take-more (y ∷ ys) (suc k) x h = ap (λ zs. y ∷ zs) (take-more ys k x h)
 
+pub take-past : {X : Type 0} (xs : List X) (k : ℕ) → length xs ≤ k → take k xs ≡ xs
+take-past [] zero h = refl
+take-past [] (suc k) h = refl
+take-past (x ∷ xs) zero h = absurd (omega (arith, h))
+take-past (x ∷ xs) (suc k) h = ap (λ ys. x ∷ ys) (take-past xs k (omega (arith, h)))
+
 -- one port has no part where none is missing
 pub part-missing : (xs : List Item) (k : ℕ) → k < length xs → None ≡ slice_get xs k → ⊥
 part-missing [] k short h = omega (arith, short)
@@ -91,6 +101,23 @@ key-suits port tag r h = rw h (both_true (eq-eqb port port refl) (eq-eqb tag tag
 
 pub key-spare : (port tag : ℕ) (r : Option (ℕ × ℕ)) → r ≡ Some (port, tag) → 1 ≤ one_if (is_some r)
 key-spare port tag r h = rw h (omega arith)
+
+-- ---- a tuple that can be formed
+
+formable : (n : Bool) (o : Option (List Item)) → is_some (cond n o None) ≡ true → cond n o None ≡ Some (unwrap_or o [])
+formable true None h = cc
+formable true (Some parts) h = refl
+formable false o h = cc
+
+formable-parts : (n : Bool) (o : Option (List Item)) → is_some (cond n o None) ≡ true → is_some o ≡ true
+formable-parts true o h = h
+formable-parts false o h = cc
+
+pub tuple-is : (j : JoinView) → is_some (tuple_in j) ≡ true → tuple_in j ≡ Some (ready_parts j.inputs)
+tuple-is j h = formable (is_none (option_map cast_in j.slot)) (parts_of j.inputs) h
+
+pub tuple-ready : (j : JoinView) → is_some (tuple_in j) ≡ true → is_some (parts_of j.inputs) ≡ true
+tuple-ready j h = formable-parts (is_none (option_map cast_in j.slot)) (parts_of j.inputs) h
 
 -- ---- items that wait
 
@@ -198,6 +225,24 @@ keeps-ports inputs inputs' room ids same kept = record { none = kept.none; made 
     by_room : (o : Option TupleRoom) → IfSome o (λ r. (r.vals.items ≡ []) × (length (ports_of inputs) ≤ r.vals.spare) × (length (ports_of inputs) ≤ ids.spare)) → IfSome o (λ r. (r.vals.items ≡ []) × (length (ports_of inputs') ≤ r.vals.spare) × (length (ports_of inputs') ≤ ids.spare))
     by_room None m = m
     by_room (Some r) m = (m.0, rw same m.1, rw same m.2)
+
+pub some-made : (inputs : Inputs) (room : Option TupleRoom) (ids : Roomy Id) (r : TupleRoom) → room ≡ Some r → KeepsRoom inputs room ids → r.vals.items ≡ []
+some-made inputs room ids r at kept = by_room room at kept.made
+  where
+    by_room : (o : Option TupleRoom) → o ≡ Some r → IfSome o (λ r. (r.vals.items ≡ []) × (length (ports_of inputs) ≤ r.vals.spare) × (length (ports_of inputs) ≤ ids.spare)) → r.vals.items ≡ []
+    by_room None at made = cc
+    by_room (Some q) at made = sym (ap (λ (t : TupleRoom). t.vals.items) (same_Some q r at)) ∙ made.0
+
+-- the tuple of the parts, in the room that was made for it
+pub slot-made : (node no tag : ℕ) (parts : List Item) (vals values : List Val) (val : Val) (edges : ℕ) (room : Option ℕ) (c : RoomyCast)
+    → c ≡ record { cast = new_cast (item_of node no tag val) 0; edges = edges } → val ≡ list_of values → values ≡ vals ++ map (λ (i : Item). i.val) parts → vals ≡ [] → tag ≡ tag_of parts → room ≡ Some edges
+    → Some c ≡ option_map (tuple_cast node no parts) room
+slot-made node no tag parts vals values val edges room c cast value all none tagged at =
+    let parts_values : values ≡ map (λ (i : Item). i.val) parts = rw none at all in
+    let tuple_value : val ≡ list_of (map (λ (i : Item). i.val) parts) = value ∙ ap list_of parts_values in
+    let item : item_of node no tag val ≡ tuple_of node no parts = λ i. item_of node no (tagged i) (tuple_value i) in
+    let made : c ≡ tuple_cast node no parts edges = cast ∙ ap (λ (t : Item). record { cast = new_cast t 0; edges = edges }) item in
+    ap Some made ∙ sym (ap (option_map (tuple_cast node no parts)) at)
 
 -- ---- the kind of a join
 

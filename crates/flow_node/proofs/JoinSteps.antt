@@ -1,7 +1,7 @@
 -- What the steps of a join leave of its node.
 use Rattle.std.proofs.Common.{◌≡◌, ℕ, ◌+◌, ◌<◌, Bool, true, false, not, ◌&&◌, cond, Option, Some, None, List, [], ◌∷◌, ◌++◌, length, refl, sym, ap, ◌∙◌, arith}
-use Rattle.std.specs.Prelude.{is_some, is_none}
-use Rattle.std.specs.Option.{option_map, unwrap_or}
+use Rattle.std.specs.Prelude.{is_some}
+use Rattle.std.specs.Option.{option_map}
 use Rattle.flow_item.specs.declared.item.Item.{Item}
 use Rattle.flow_item.specs.declared.event.Ended.{Ended}
 use Rattle.flow_item.specs.Lists.{has, is_empty, change_at}
@@ -13,13 +13,13 @@ use Rattle.flow_machine.specs.After.{part_after_arrival, part_after_give, part_a
 use Rattle.flow_machine.specs.OpenParts.{holds_in}
 use Rattle.flow_cast.specs.Casts.{RoomyCast}
 use Rattle.flow_node.specs.Parts.{cast_in, edges_over, is_roomy, given_over}
-use Rattle.flow_node.specs.Joins.{JoinView, ports_of, rule_of, parts_of, ready_parts, join_kind, join_state, join_part_of, tuple_cast, is_slot_roomy, has_tuple_room, is_join_whole}
+use Rattle.flow_node.specs.Joins.{JoinView, ports_of, rule_of, ready_parts, tuple_in, join_kind, join_state, join_part_of, tuple_cast, is_slot_roomy, has_tuple_room, is_join_whole}
 use Rattle.flow_node.specs.Kept.{Steps}
 use Rattle.flow_node.specs.declared.base.Base.{Base}
 use Rattle.flow_node.specs.declared.part.Part.TheVariants as P
 use Rattle.flow_node.proofs.CastLemmas.{roomy-given}
 use Rattle.flow_node.proofs.FunctionLemmas.{may, offered, roomy-free}
-use Rattle.flow_node.proofs.JoinLemmas.{place, state, join-candidates, open-slot}
+use Rattle.flow_node.proofs.JoinLemmas.{place, state, join-candidates, open-slot, tuple-is}
 
 -- ---- the cast in the slot
 
@@ -44,21 +44,6 @@ slot-free outs j h = by_slot j.slot (and_left (is_slot_roomy outs j.slot) (has_t
     by_slot (Some c) h = roomy-free outs (c ∷ []) (both_true h refl)
 
 -- ---- a tuple that can be formed
-
-formable : (n : Bool) (o : Option (List Item)) → is_some (cond n o None) ≡ true → cond n o None ≡ Some (unwrap_or o [])
-formable true None h = cc
-formable true (Some parts) h = refl
-formable false o h = cc
-
-formable-parts : (n : Bool) (o : Option (List Item)) → is_some (cond n o None) ≡ true → is_some o ≡ true
-formable-parts true o h = h
-formable-parts false o h = cc
-
-pub next-is : (b : Base) (j : JoinView) → is_some (next_tuple (place b j) (join_part_of j)) ≡ true → next_tuple (place b j) (join_part_of j) ≡ Some (ready_parts j.inputs)
-next-is b j h = formable (is_none (option_map cast_in j.slot)) (parts_of j.inputs) h
-
-pub next-parts : (b : Base) (j : JoinView) → is_some (next_tuple (place b j) (join_part_of j)) ≡ true → is_some (parts_of j.inputs) ≡ true
-next-parts b j h = formable-parts (is_none (option_map cast_in j.slot)) (parts_of j.inputs) h
 
 some-room : (o : Option ℕ) → is_some o ≡ true → (n : ℕ) × (o ≡ Some n)
 some-room None h = cc
@@ -113,7 +98,7 @@ module _ (b : Base) (j j' : JoinView) where
         whole = λ w. ap (λ (v : JoinView). is_slot_roomy b.outs.items v.slot && has_tuple_room b.outs.items v.room) same ∙ both_true (slot-given b.outs.items x j.slot roomy open_slot) (and_right (is_slot_roomy b.outs.items j.slot) (has_tuple_room b.outs.items j.room) whole);
       }
 
-  pub join-formed : (no : ℕ) → is_some (next_tuple (place b j) (join_part_of j)) ≡ true → is_some j.room ≡ true → ports_of j'.inputs ≡ ports_after_form (rule_of j.inputs) (tag_of (ready_parts j.inputs)) (ports_of j.inputs) → rule_of j'.inputs ≡ rule_of j.inputs
+  pub join-formed : (no : ℕ) → is_some (tuple_in j) ≡ true → is_some j.room ≡ true → ports_of j'.inputs ≡ ports_after_form (rule_of j.inputs) (tag_of (ready_parts j.inputs)) (ports_of j.inputs) → rule_of j'.inputs ≡ rule_of j.inputs
       → j'.slot ≡ option_map (tuple_cast b.node no (ready_parts j.inputs)) j.room → j'.room ≡ None
       → Steps b.outs.items (P.Join j) (P.Join j') (part_after_form (place b j) no (join_part_of j) (next_tuple (place b j) (join_part_of j))) []
   join-formed no ready some ports rule slot none =
@@ -123,7 +108,7 @@ module _ (b : Base) (j j' : JoinView) where
       let formed : j'.slot ≡ Some (tuple_cast b.node no parts room.0) = slot ∙ ap (option_map (tuple_cast b.node no parts)) room.1 in
       let cast : option_map cast_in j'.slot ≡ Some (new_cast (tuple_of b.node no parts) 0) = ap (option_map cast_in) formed in
       let after : part_after_form (place b j) no (join_part_of j) (next_tuple (place b j) (join_part_of j)) ≡ join_part record { ports = ports_after_form (join_kind j) (tag_of parts) (ports_of j.inputs); slot = Some (new_cast (tuple_of b.node no parts) 0) } =
-          ap (part_after_form (place b j) no (join_part_of j)) (next-is b j ready) in
+      ap (part_after_form (place b j) no (join_part_of j)) (tuple-is j ready) in
       record {
         kind = rule;
         is = (λ i. join_part record { ports = ports i; slot = cast i }) ∙ sym after;

@@ -1,5 +1,5 @@
 -- A join's part in code, as contracts see it.
-use Rattle.std.specs.Prelude.{◌≡◌, ℕ, ◌≤◌, Bool, true, ◌&&◌, nat_eq, nat_le, is_some, Option, Some, None, List, [], length, IfSome}
+use Rattle.std.specs.Prelude.{◌≡◌, ℕ, ◌≤◌, Bool, true, ◌&&◌, if◌then◌else◌, nat_le, is_some, is_none, Option, Some, None, List, [], length, map, IfSome}
 use Rattle.std.specs.Option.{option_map, unwrap_or}
 use Rattle.flow_item.specs.declared.item.Id.{Id}
 use Rattle.flow_item.specs.declared.item.Item.{Item}
@@ -7,9 +7,10 @@ use Rattle.flow_item.specs.Rooms.{Roomy}
 use Rattle.flow_shape.specs.declared.Kind.{Kind}
 use Rattle.flow_shape.specs.declared.Kind.TheVariants as K
 use Rattle.flow_shape.specs.declared.Wire.{Wire}
-use Rattle.flow_machine.specs.State.{JoinState, Part, join_part, new_cast, one_if}
+use Rattle.flow_machine.specs.State.{JoinState, Part, join_part, new_cast, one_if, option_list}
 use Rattle.flow_machine.specs.Offers.{tuple_parts, tuple_of}
 use Rattle.flow_cast.specs.Casts.{RoomyCast}
+use Rattle.flow_node.specs.NodeViews.{cast_item}
 use Rattle.flow_node.specs.Parts.{cast_in, edges_over, is_roomy}
 use Rattle.flow_node.specs.declared.join.Inputs.{Inputs}
 use Rattle.flow_node.specs.declared.join.Inputs.TheVariants as J
@@ -44,11 +45,6 @@ abbrev pub inputs_ready_for : Inputs → Option (ℕ × ℕ)
 inputs_ready_for (J.Queue q) = None
 inputs_ready_for (J.Key k) = k.ready_for
 
--- whether the room is for an item with this tag at this port
-abbrev pub suits : Option (ℕ × ℕ) → ℕ → ℕ → Bool
-suits None port tag = true
-suits (Some r) port tag = nat_eq r.0 port && nat_eq r.1 tag
-
 -- ---- with the tuple on offer
 
 -- what waits at the ports, the cast in the slot, and for how many edges the next tuple has room, once the node is prepared for it
@@ -65,6 +61,14 @@ join_state j = record { ports = ports_of j.inputs; slot = option_map cast_in j.s
 
 abbrev pub join_part_of : JoinView → Part
 join_part_of j = join_part (join_state j)
+
+-- the parts of the tuple that can be formed
+abbrev pub tuple_in : JoinView → Option (List Item)
+tuple_in j = if is_none (option_map cast_in j.slot) then parts_of j.inputs else None
+
+-- the tuple on offer
+abbrev pub slot_items : Option RoomyCast → List Item
+slot_items o = map cast_item (option_list (option_map cast_in o))
 
 -- the tuple of the parts on offer, with room for so many edges
 abbrev pub tuple_cast : ℕ → ℕ → List Item → ℕ → RoomyCast

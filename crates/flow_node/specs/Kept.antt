@@ -1,5 +1,6 @@
 -- A node in code, as contracts see it: what all kinds have, and its part.
-use Rattle.std.specs.Prelude.{◌≡◌, ℕ, ◌+◌, ◌≤◌, Bool, true, ◌&&◌, nat_lt, nat_le, List, Option, None, [], length, vec_len, vec_capacity}
+use Rattle.std.specs.Prelude.{◌≡◌, ℕ, ◌+◌, ◌≤◌, Bool, true, ◌&&◌, nat_lt, nat_le, List, Option, None, [], length, vec_len, vec_capacity, is_some}
+use Rattle.flow_node.specs.Joins.{join_kind, join_part_of, inputs_spare, inputs_ready_for, is_join_whole}
 use Rattle.std.specs.List.{list_all}
 use Rattle.flow_shape.specs.declared.Kind.{Kind}
 use Rattle.flow_shape.specs.declared.Wire.{Wire}
@@ -19,29 +20,40 @@ use Rattle.flow_node.specs.declared.part.Part.TheVariants as P
 abbrev pub kind_of : Part → Kind
 kind_of (P.Store s) = store_kind s
 kind_of (P.Function f) = function_kind f
+kind_of (P.Join j) = join_kind j
 
 abbrev pub part_of : Part → S.Part
 part_of (P.Store s) = S.store_part (store_state s)
 part_of (P.Function f) = function_part f
+part_of (P.Join j) = join_part_of j
 
 -- for how many more items there is room
 abbrev pub spare_of : Part → ℕ
 spare_of (P.Store s) = store_spare s
 spare_of (P.Function f) = f.spare
+spare_of (P.Join j) = inputs_spare j.inputs
 
 -- the port and tag that this room is for, where it isn't for any
 abbrev pub ready_for_of : Part → Option (ℕ × ℕ)
+ready_for_of (P.Join j) = inputs_ready_for j.inputs
 ready_for_of p = None
+
+-- whether it has what the next tuple is made in, where it forms tuples
+abbrev pub can_form : Part → Bool
+can_form (P.Join j) = is_some j.room
+can_form p = true
 
 -- the casts that it is prepared with
 abbrev pub coming_of : Part → List RoomyCast
 coming_of (P.Store s) = []
 coming_of (P.Function f) = f.coming
+coming_of (P.Join j) = []
 
 -- whether each of its casts has room for the edges that it may meet
 abbrev pub is_whole : List Wire → Part → Bool
 is_whole outs (P.Store s) = true
 is_whole outs (P.Function f) = are_roomy outs f.outbox && are_roomy outs f.coming
+is_whole outs (P.Join j) = is_join_whole outs j
 
 -- ---- with what all kinds have
 

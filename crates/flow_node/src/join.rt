@@ -5,16 +5,16 @@ ghost use Rattle.std.specs.List.{find};
 ghost use Rattle.std.specs.Option.{option_copied, option_map};
 ghost use Rattle.flow_item.specs.Lists.{is_empty, first, change_at};
 ghost use Rattle.flow_machine.specs.State.{offer, start_part};
-ghost use Rattle.flow_shape.specs.Places.{Place};
-ghost use Rattle.flow_machine.specs.Offers.{candidates, offer_end, all_in, is_met, next_tuple, tag_of};
+ghost use Rattle.flow_machine.specs.Offers.{candidates, offer_end, all_in, is_met, tag_of};
 ghost use Rattle.flow_machine.specs.After.{part_after_form, ports_after_form};
 ghost use Rattle.flow_machine.specs.Enabled.{is_numbered};
 ghost use Rattle.flow_machine.specs.Ledger.{flattened};
 ghost use Rattle.flow_machine.specs.Wishes.{offer_wish, shut_wish};
 ghost use Rattle.flow_machine.specs.WishEvents.{id_of, where_some};
 ghost use Rattle.flow_node.specs.Kept.{place_with, state_with};
+ghost use Rattle.flow_node.specs.Readied.{suits};
 ghost use Rattle.flow_node.specs.NodeViews.{present_items};
-ghost use Rattle.flow_node.specs.Joins.{JoinView, ports_of, rule_of, parts_of, ready_parts, inputs_spare, inputs_ready_for, suits, join_kind, join_part_of, has_tuple_room, is_slot_roomy, tuple_cast};
+ghost use Rattle.flow_node.specs.Joins.{JoinView, ports_of, rule_of, parts_of, ready_parts, tuple_in, slot_items, inputs_spare, inputs_ready_for, join_kind, join_part_of, has_tuple_room, is_slot_roomy, tuple_cast};
 ghost use Rattle.flow_node.specs.Parts.{given_over};
 ghost use Rattle.flow_item.specs.declared.item.Item.{Item};
 
@@ -208,6 +208,13 @@ fn is_over(push: &[u32], cast: &Cast) -> bool
     has_met_push(push, cast) && cast.got() > 0
 }
 
+/// The item, where it has this number.
+fn if_numbered(item: &Item, no: u64) -> Option<&Item>
+    ensures { option_copied result ≡ find (is_numbered no) (item.now ∷ []) }
+{
+    if item.id.no == no { Some(item) } else { None }
+}
+
 /// Room for the next tuple: its parts, and the edges that it may go over.
 fn tuple_room(alloc: Global, ports: usize, edges: usize) -> Result<TupleRoom, NoMemory>
     ensures vals { IfOk result (λ r. (r.vals.items ≡ []) × (ports ≤ r.vals.spare)) }
@@ -293,10 +300,18 @@ impl JoinPart {
     {
         match self.waiting(no) {
             Some(item) => Some(item),
-            None => match &self.slot {
-                Some(cast) if cast.item().id.no == no => Some(cast.item()),
-                _ => None,
-            },
+            None => self.slot_item(no),
+        }
+    }
+
+    /// The tuple on offer, where it has this number.
+    fn slot_item(&self, no: u64) -> Option<&Item>
+        ensures { option_copied result
+            ≡ find (is_numbered no) (slot_items self.now.slot) }
+    {
+        match &self.slot {
+            Some(cast) => if_numbered(cast.item(), no),
+            None => None,
         }
     }
 
@@ -346,16 +361,14 @@ impl JoinPart {
 
     /// Whether a tuple can be formed: none is on offer, and its parts are there.
     pub(crate) fn forms(&self) -> bool
-        ensures { (place : Place) → place.kind ≡ join_kind self.now → result ≡ is_some (next_tuple place (join_part_of self.now)) }
+        ensures { result ≡ is_some (tuple_in self.now) }
     {
         self.slot.is_none() && self.inputs.ready()
     }
 
     /// The ids of the parts of the tuple that can be formed, in port order.
     pub(crate) fn parts(&self) -> Result<Option<Ids>, NoMemory>
-        ensures { IfOk
-            result
-            (λ ids. (place : Place) → place.kind ≡ join_kind self.now → ids ≡ option_map (map id_of) (next_tuple place (join_part_of self.now))) }
+        ensures { IfOk result (λ ids. ids ≡ option_map (map id_of) (tuple_in self.now)) }
     {
         if self.forms() {
             Ok(Some(self.inputs.ids(self.alloc)?))

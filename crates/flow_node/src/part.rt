@@ -1,23 +1,23 @@
 //! What a node has beside what all kinds have: one variant for each kind, or for kinds that are alike.
 
-ghost use Rattle.std.specs.Prelude.{◌≡◌, ℕ, List, ◌<◌, ◌≤◌, ◌+◌, ◌^◌, ◌∷◌, [], true, false, if◌then◌else◌, not, length, map, slice_get, OnOk, IfOk};
+ghost use Rattle.std.specs.Prelude.{◌≡◌, is_some, ℕ, List, ◌<◌, ◌≤◌, ◌+◌, ◌^◌, ◌∷◌, [], true, false, if◌then◌else◌, not, length, map, slice_get, OnOk, IfOk};
 ghost use Rattle.std.specs.List.{list_any, list_all, find};
-ghost use Rattle.std.specs.Option.{option_copied};
+ghost use Rattle.std.specs.Option.{option_copied, option_map};
 ghost use Rattle.flow_item.specs.Lists.{first, is_empty};
 ghost use Rattle.flow_item.specs.Values.{same_item};
 ghost use Rattle.flow_shape.specs.Kinds.{is_discarding};
-ghost use Rattle.flow_shape.specs.Rules.{has_good_limit};
 ghost use Rattle.flow_machine.specs.State.{casts_of, start_part, offer};
-ghost use Rattle.flow_machine.specs.Offers.{candidates, room, offer_end};
+ghost use Rattle.flow_machine.specs.Offers.{next_tuple, candidates, room, offer_end};
 ghost use Rattle.flow_machine.specs.Enabled.{is_numbered};
-ghost use Rattle.flow_machine.specs.After.{part_after_arrival, part_after_give, part_after_refuse, part_after_start, part_after_end, part_after_shut, part_after_cancel};
+ghost use Rattle.flow_machine.specs.WishEvents.{id_of};
+ghost use Rattle.flow_machine.specs.After.{part_after_arrival, part_after_give, part_after_refuse, part_after_form, part_after_start, part_after_end, part_after_shut, part_after_cancel};
 ghost use Rattle.flow_machine.specs.OpenParts.{open_bodies, open_holds};
 ghost use Rattle.flow_machine.specs.PrintOrder.{items_in_order};
 ghost use Rattle.flow_machine.specs.Wishes.{offer_wish, shut_wish, start_wish, is_ready};
-ghost use Rattle.flow_node.specs.Built.{is_built};
+ghost use Rattle.flow_node.specs.Built.{is_built, is_within_limits};
 ghost use Rattle.flow_node.specs.Readied.{suits, runs_bodies};
 ghost use Rattle.flow_node.specs.Parts.{cast_in, takes_in};
-ghost use Rattle.flow_node.specs.Kept.{kind_of, part_of, spare_of, ready_for_of, coming_of, is_whole, is_counted, place_of, state_of, Steps};
+ghost use Rattle.flow_node.specs.Kept.{kind_of, part_of, spare_of, ready_for_of, can_form, coming_of, is_whole, is_counted, place_of, state_of, Steps};
 ghost use Rattle.flow_node.specs.NodeViews.{present_items, ticket_items, running_items, first_ready, room_seen};
 ghost use Rattle.flow_shape.specs.declared.Wire.{Wire};
 ghost use Rattle.flow_item.specs.declared.item.Msg.{Msg};
@@ -26,8 +26,9 @@ ghost use Rattle.flow_store.specs.Stores.{is_by_caller, tag_after};
 use crate::bar::Bar;
 use crate::base::Base;
 use crate::function::FunctionPart;
+use crate::join::JoinPart;
 use crate::store::StorePart;
-use flow_item::{Ended, Item, Land, NoMemory, Outs};
+use flow_item::{Ended, Ids, Item, Land, NoMemory, Outs};
 use flow_machine::Wish;
 use flow_shape::Kind;
 use flow_store::{BagStore, FifoStore, RankStore, SeqStore, Way};
@@ -39,13 +40,15 @@ pub(crate) enum Part {
     /// A queue, buffer, priority node or sequencer.
     Store(StorePart),
     Function(FunctionPart),
+    /// A queueing or key-matching join.
+    Join(JoinPart),
 }
 
 impl Part {
     /// The part of a node of this kind at its start.
     pub(crate) fn new(alloc: Global, kind: &Kind) -> Result<Part, NoMemory>
         requires built { is_built kind.now ≡ true }
-        requires limited { has_good_limit kind.now ≡ true }
+        requires limited { is_within_limits kind.now ≡ true }
         ensures kind { IfOk result (λ p. kind_of p ≡ kind.now) }
         ensures part { IfOk result (λ p. part_of p ≡ start_part kind.now) }
         ensures casts { IfOk result (λ p. coming_of p ≡ []) }
@@ -66,6 +69,8 @@ impl Part {
                 arg,
                 ..
             } => Ok(Part::Function(FunctionPart::new(alloc, *limit, *body, arg.copy(alloc)?))),
+            Kind::QueueJoin { ports } => Ok(Part::Join(JoinPart::queueing(alloc, *ports)?)),
+            Kind::KeyJoin { ports } => Ok(Part::Join(JoinPart::matching(alloc, *ports)?)),
             _ => unreachable!(),
         }
     }
@@ -78,6 +83,7 @@ impl Part {
         match self {
             Part::Store(store) => store.front(),
             Part::Function(function) => function.candidate(base, edge),
+            Part::Join(join) => join.candidate(base, edge),
         }
     }
 
@@ -89,6 +95,7 @@ impl Part {
         match self {
             Part::Store(store) => store.offered(no),
             Part::Function(function) => function.offered(base, edge, no),
+            Part::Join(join) => join.offered(base, edge, no),
         }
     }
 
@@ -99,6 +106,7 @@ impl Part {
         match self {
             Part::Store(store) => store.item(no),
             Part::Function(function) => function.item(no),
+            Part::Join(join) => join.item(no),
         }
     }
 
@@ -109,6 +117,7 @@ impl Part {
         match self {
             Part::Store(_) => None,
             Part::Function(function) => function.first_ready(),
+            Part::Join(_) => None,
         }
     }
 
@@ -119,6 +128,7 @@ impl Part {
         match self {
             Part::Store(_) => None,
             Part::Function(function) => function.running(no),
+            Part::Join(_) => None,
         }
     }
 
@@ -129,6 +139,7 @@ impl Part {
         match self {
             Part::Store(_) => None,
             Part::Function(function) => function.ticket(k),
+            Part::Join(_) => None,
         }
     }
 
@@ -145,6 +156,7 @@ impl Part {
                 Err(cause) => Err(Bar::Cause(cause)),
             },
             Part::Function(function) => Ok(function.land()),
+            Part::Join(_) => Ok(Land::Kept),
         }
     }
 
@@ -155,6 +167,7 @@ impl Part {
         match self {
             Part::Store(_) => 0,
             Part::Function(function) => function.coming(),
+            Part::Join(_) => 0,
         }
     }
 
@@ -167,6 +180,7 @@ impl Part {
         match self {
             Part::Store(store) => store.open_holds(),
             Part::Function(function) => function.open_bodies(),
+            Part::Join(_) => 0,
         }
     }
 
@@ -177,6 +191,7 @@ impl Part {
         match self {
             Part::Store(_) => false,
             Part::Function(function) => function.is_ready(),
+            Part::Join(_) => false,
         }
     }
 
@@ -188,6 +203,7 @@ impl Part {
         match self {
             Part::Store(store) => store.offer_wish(base),
             Part::Function(function) => function.offer_wish(base),
+            Part::Join(join) => join.offer_wish(base),
         }
     }
 
@@ -199,6 +215,33 @@ impl Part {
         match self {
             Part::Store(_) => None,
             Part::Function(function) => function.shut_wish(base),
+            Part::Join(join) => join.shut_wish(base),
+        }
+    }
+
+    /// Whether a tuple can be formed.
+    pub(crate) fn forms(&self, base: &Base) -> bool
+        ensures { result ≡ is_some (next_tuple (place_of base.now self.now) (part_of self.now)) }
+    {
+        let _ = base;
+        match self {
+            Part::Store(_) => false,
+            Part::Function(_) => false,
+            Part::Join(join) => join.forms(),
+        }
+    }
+
+    /// The ids of the parts of the tuple that can be formed, in port order.
+    pub(crate) fn parts(&self, base: &Base) -> Result<Option<Ids>, NoMemory>
+        ensures { IfOk
+            result
+            (λ ids. ids ≡ option_map (map id_of) (next_tuple (place_of base.now self.now) (part_of self.now))) }
+    {
+        let _ = base;
+        match self {
+            Part::Store(_) => Ok(None),
+            Part::Function(_) => Ok(None),
+            Part::Join(join) => join.parts(),
         }
     }
 
@@ -209,6 +252,7 @@ impl Part {
         match self {
             Part::Store(_) => None,
             Part::Function(function) => function.start_wish(),
+            Part::Join(_) => None,
         }
     }
 
@@ -219,6 +263,7 @@ impl Part {
         match self {
             Part::Store(store) => store.len(),
             Part::Function(_) => 0,
+            Part::Join(_) => 0,
         }
     }
 
@@ -230,6 +275,7 @@ impl Part {
         match self {
             Part::Store(store) => store.at(k),
             Part::Function(_) => None,
+            Part::Join(_) => None,
         }
     }
 }
@@ -246,6 +292,7 @@ impl Part {
         match self {
             Part::Store(store) => store.reserve(),
             Part::Function(function) => function.reserve(),
+            Part::Join(join) => join.reserve(port, tag),
         }
     }
 
@@ -256,6 +303,7 @@ impl Part {
         match self {
             Part::Store(store) => store.arrange(),
             Part::Function(_) => Ok(()),
+            Part::Join(_) => Ok(()),
         }
     }
 
@@ -266,6 +314,7 @@ impl Part {
         match self {
             Part::Store(_) => {}
             Part::Function(function) => function.clear(),
+            Part::Join(_) => {}
         }
     }
 
@@ -281,6 +330,19 @@ impl Part {
         match self {
             Part::Store(_) => Ok(()),
             Part::Function(function) => function.expect(base, number, outs),
+            Part::Join(_) => Ok(()),
+        }
+    }
+
+    /// Makes what the next tuple is made in, where the kind forms tuples.
+    pub(crate) fn expect_tuple(&mut self, base: &Base) -> Result<(), NoMemory>
+        ensures same { Steps base.now.outs.items self.old self.new (part_of self.old) (coming_of self.old) }
+        ensures ok { OnOk result (can_form self.new ≡ true) }
+    {
+        match self {
+            Part::Store(_) => Ok(()),
+            Part::Function(_) => Ok(()),
+            Part::Join(join) => join.expect_tuple(base),
         }
     }
 
@@ -298,6 +360,7 @@ impl Part {
         match self {
             Part::Store(store) => store.arrive(item, way),
             Part::Function(function) => function.arrive(item),
+            Part::Join(join) => join.arrive(port, item),
         }
     }
 
@@ -311,6 +374,7 @@ impl Part {
         match self {
             Part::Store(store) => store.give(edge, item.id.no),
             Part::Function(function) => function.give(base, edge),
+            Part::Join(join) => join.give(base, edge),
         }
     }
 
@@ -323,6 +387,7 @@ impl Part {
         match self {
             Part::Store(_) => {}
             Part::Function(function) => function.refuse(base, edge),
+            Part::Join(_) => {}
         }
     }
 
@@ -333,6 +398,7 @@ impl Part {
         match self {
             Part::Store(_) => true,
             Part::Function(_) => false,
+            Part::Join(_) => true,
         }
     }
 
@@ -343,6 +409,7 @@ impl Part {
         match self {
             Part::Store(_) => {}
             Part::Function(function) => function.start(),
+            Part::Join(_) => {}
         }
     }
 
@@ -357,6 +424,20 @@ impl Part {
         match self {
             Part::Store(_) => unreachable!(),
             Part::Function(function) => function.end(no),
+            Part::Join(_) => unreachable!(),
+        }
+    }
+
+    /// A tuple is formed with this number, and is on offer.
+    pub(crate) fn form(&mut self, base: &Base, no: u64)
+        requires some { is_some (next_tuple (place_of base.now self.old) (part_of self.old)) ≡ true }
+        requires room { can_form self.old ≡ true }
+        ensures { Steps base.now.outs.items self.old self.new (part_after_form (place_of base.now self.old) no (part_of self.old) (next_tuple (place_of base.now self.old) (part_of self.old))) (coming_of self.old) }
+    {
+        match self {
+            Part::Store(_) => unreachable!(),
+            Part::Function(_) => unreachable!(),
+            Part::Join(join) => join.form(base, no),
         }
     }
 
@@ -368,6 +449,7 @@ impl Part {
         match self {
             Part::Store(_) => {}
             Part::Function(function) => function.shut(),
+            Part::Join(join) => join.shut(),
         }
     }
 
@@ -378,6 +460,7 @@ impl Part {
         match self {
             Part::Store(_) => {}
             Part::Function(function) => function.cancel(),
+            Part::Join(_) => {}
         }
     }
 }

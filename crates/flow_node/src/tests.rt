@@ -1,8 +1,7 @@
 ghost use Rattle.std.specs.Prelude.{◌≡◌, true, false, [], ◌∷◌, not, nat_eq, IfOk};
 ghost use Rattle.flow_shape.specs.Kinds.{is_for_callers, is_async};
-ghost use Rattle.flow_shape.specs.Rules.{has_good_limit};
 ghost use Rattle.flow_shape.specs.Places.{Place, place_at, is_wired};
-ghost use Rattle.flow_node.specs.Built.{is_built};
+ghost use Rattle.flow_node.specs.Built.{is_built, is_within_limits};
 ghost use Rattle.flow_shape.specs.declared.Shape.{Shape};
 
 use super::*;
@@ -58,7 +57,7 @@ fn fork(alloc: Global, kind: Kind) -> Result<Shape, NoMemory>
 /// Node 0 of a shape with two edges out of it, at its start.
 fn first_node(alloc: Global, kind: Kind) -> Result<NodeState, NoMemory>
     requires built { is_built kind ≡ true }
-    requires limited { has_good_limit kind ≡ true }
+    requires limited { is_within_limits kind ≡ true }
     ensures number { IfOk result (λ v. v.node.place.node ≡ 0) }
     ensures kind { IfOk result (λ v. v.node.place.kind ≡ kind) }
     ensures first { IfOk result (λ v. is_wired v.node.place record { edge = 0; from = 0; to = 1; port = 0 } ≡ true) }
@@ -74,11 +73,20 @@ fn put(node: &mut NodeState, tag: u64, val: i64) -> Result<(), NoMemory>
     requires callers { is_for_callers node.old.node.place.kind 0 ≡ true }
     ensures { node.new.node.place ≡ node.old.node.place }
 {
-    let answer = node.put_answer(0, tag);
+    put_at(node, 0, tag, val)
+}
+
+/// A caller puts a number to a port of node 0.
+fn put_at(node: &mut NodeState, port: u32, tag: u64, val: i64) -> Result<(), NoMemory>
+    requires number { node.old.node.place.node ≡ 0 }
+    requires callers { is_for_callers node.old.node.place.kind port ≡ true }
+    ensures { node.new.node.place ≡ node.old.node.place }
+{
+    let answer = node.put_answer(port, tag);
     let e = Event::Put {
         caller: 0,
         node: 0,
-        port: 0,
+        port,
         tag,
         val: Val::Int(val),
         answer,
@@ -268,7 +276,7 @@ fn passed(
     kind: Kind,
 ) -> Result<(Option<i64>, Option<i64>, Option<i64>, usize), NoMemory>
     requires built { is_built kind ≡ true }
-    requires limited { has_good_limit kind ≡ true }
+    requires limited { is_within_limits kind ≡ true }
     requires callers { is_for_callers kind 0 ≡ true }
 {
     let mut node = first_node(alloc, kind)?;
@@ -293,7 +301,111 @@ fn stores_pass_their_items_on(rt: HostRuntime) -> Result<(), Fail> {
         passed(alloc, Kind::Buffer { capacity: None })?,
         (Some(5), Some(9), Some(7), 1)
     );
-    assert_eq!(rt; passed(alloc, Kind::Priority)?, (Some(9), Some(8), Some(7), 1));
-    assert_eq!(rt; passed(alloc, Kind::Sequencer)?, (Some(7), Some(5), None, 1));
+    assert_eq!(rt;
+        passed(alloc, Kind::Priority)?,
+        (Some(9), Some(8), Some(7), 1)
+    );
+    assert_eq!(rt;
+        passed(alloc, Kind::Sequencer)?,
+        (Some(7), Some(5), None, 1)
+    );
+    Ok(())
+}
+
+/// The number of the tuple that node 0 forms, where it can form one.
+fn form(node: &mut NodeState) -> Result<Option<u64>, NoMemory>
+    requires number { node.old.node.place.node ≡ 0 }
+    ensures { node.new.node.place ≡ node.old.node.place }
+{
+    let (no, parts) = match node.event(None, 0, Wish::Form)? {
+        Some(Event::Form { no, parts, .. }) => (no, parts),
+        _ => return Ok(None),
+    };
+    let e = Event::Form { node: 0, no, parts };
+    node.prepare(&e)?;
+    node.apply_one(&e);
+    Ok(Some(no))
+}
+
+fn pair(val: Option<Val>) -> Option<(i64, i64)> {
+    match val {
+        Some(Val::List(parts)) => match (parts.get(0), parts.get(1)) {
+            (Some(Val::Int(first)), Some(Val::Int(second))) => Some((*first, *second)),
+            _ => None,
+        },
+        _ => None,
+    }
+}
+
+/// The next tuple of node 0, which goes over both edges.
+fn tuple(alloc: Global, node: &mut NodeState) -> Result<Option<(i64, i64)>, NoMemory>
+    requires number { node.old.node.place.node ≡ 0 }
+    requires first { is_wired node.old.node.place record { edge = 0; from = 0; to = 1; port = 0 } ≡ true }
+    requires second { is_wired node.old.node.place record { edge = 1; from = 0; to = 2; port = 0 } ≡ true }
+    ensures { node.new.node.place ≡ node.old.node.place }
+{
+    form(node)?;
+    let given = give(alloc, node, link(1, 2))?;
+    give(alloc, node, link(0, 1))?;
+    shut(node)?;
+    Ok(pair(given))
+}
+
+/// The tuples of a join with two ports after five puts.
+fn joined(
+    alloc: Global,
+    kind: Kind,
+) -> Result<(Option<(i64, i64)>, Option<(i64, i64)>, Option<(i64, i64)>), NoMemory>
+    requires built { is_built kind ≡ true }
+    requires limited { is_within_limits kind ≡ true }
+    requires first { is_for_callers kind 0 ≡ true }
+    requires second { is_for_callers kind 1 ≡ true }
+{
+    let mut node = first_node(alloc, kind)?;
+    put_at(&mut node, 1, 7, 10)?;
+    put_at(&mut node, 0, 9, 20)?;
+    put_at(&mut node, 0, 5, 30)?;
+    put_at(&mut node, 1, 5, 40)?;
+    put_at(&mut node, 1, 9, 50)?;
+    let first = tuple(alloc, &mut node)?;
+    let second = tuple(alloc, &mut node)?;
+    let third = tuple(alloc, &mut node)?;
+    Ok((first, second, third))
+}
+
+#[test]
+fn joins_form_their_tuples(rt: HostRuntime) -> Result<(), Fail> {
+    let alloc = rt.alloc();
+    assert_eq!(rt;
+        joined(alloc, Kind::QueueJoin { ports: 2 })?,
+        (Some((20, 10)), Some((30, 40)), None)
+    );
+    assert_eq!(rt;
+        joined(alloc, Kind::KeyJoin { ports: 2 })?,
+        (Some((30, 40)), Some((20, 50)), None)
+    );
+    Ok(())
+}
+
+#[test]
+fn a_tuple_is_offered_until_some_take_it(rt: HostRuntime) -> Result<(), Fail> {
+    let alloc = rt.alloc();
+    let mut node = first_node(alloc, Kind::QueueJoin { ports: 2 })?;
+    put_at(&mut node, 1, 7, 10)?;
+    assert_eq!(rt; form(&mut node)?, None);
+    put_at(&mut node, 0, 8, 20)?;
+    put_at(&mut node, 0, 9, 30)?;
+    put_at(&mut node, 1, 9, 40)?;
+    assert!(rt; matches!(node.wish(), Wish::Form) && !node.at_rest());
+    assert_eq!(rt; form(&mut node)?, Some(4));
+    assert_eq!(rt; form(&mut node)?, None);
+    assert_eq!(rt; node.item(4).map(|item| item.tag), Some(8));
+    assert_eq!(rt; (offer(&node), shut(&mut node)?), (Some((0, 4)), None));
+    assert!(rt; give(alloc, &mut node, link(0, 1))?.is_some());
+    assert_eq!(rt; (offer(&node), shut(&mut node)?), (Some((1, 4)), None));
+    assert!(rt; give(alloc, &mut node, link(1, 2))?.is_some());
+    assert_eq!(rt; shut(&mut node)?, Some((4, true)));
+    assert_eq!(rt; (form(&mut node)?, node.made()), (Some(5), 6));
+    assert_eq!(rt; (node.open_parts(), node.item_count()), (1, 0));
     Ok(())
 }
