@@ -293,7 +293,13 @@ fn stores_pass_their_items_on(rt: HostRuntime) -> Result<(), Fail> {
         passed(alloc, Kind::Buffer { capacity: None })?,
         (Some(5), Some(9), Some(7), 1)
     );
-    assert_eq!(rt; passed(alloc, Kind::Priority)?, (Some(9), Some(8), Some(7), 1));
-    assert_eq!(rt; passed(alloc, Kind::Sequencer)?, (Some(7), Some(5), None, 1));
+    assert_eq!(rt;
+        passed(alloc, Kind::Priority)?,
+        (Some(9), Some(8), Some(7), 1)
+    );
+    assert_eq!(rt;
+        passed(alloc, Kind::Sequencer)?,
+        (Some(7), Some(5), None, 1)
+    );
     Ok(())
 }
