@@ -1,8 +1,8 @@
 -- What the steps of a part leave of its node.
-use Rattle.std.proofs.Common.{◌≡◌, ℕ, suc, ◌+◌, ◌≤◌, Bool, true, false, not, ◌&&◌, ◌||◌, cond, eqb, ltb, Option, Some, None, Err, List, [], ◌∷◌, length, map, drop, refl, sym, ap, ◌∙◌, arith, eq-eqb}
+use Rattle.std.proofs.Common.{◌≡◌, ℕ, suc, ◌+◌, ◌≤◌, Bool, true, false, not, ◌&&◌, ◌||◌, cond, eqb, ltb, Option, Some, None, Err, List, [], ◌∷◌, length, map, drop, refl, sym, ap, ◌∙◌, arith, eq-eqb, ◌<◌}
 use Rattle.flow_node.proofs.JoinLemmas.{join-keeps}
 use Rattle.flow_item.specs.declared.item.Id.{Id}
-use Rattle.std.specs.Prelude.{is_none, is_some}
+use Rattle.std.specs.Prelude.{is_none, is_some, IsSome}
 use Rattle.std.specs.Option.{option_map, option_or}
 use Rattle.std.specs.List.{list_all, list_any, find}
 use Rattle.std.proofs.lemmas.Bool.{eqb-true}
@@ -41,10 +41,10 @@ use Rattle.flow_machine.specs.Wishes.{offer_wish, shut_wish}
 use Rattle.flow_machine.specs.WishEvents.{given_event, offer_event, ask_event, tuple_event, form_event, id_of}
 use Rattle.flow_machine.specs.declared.Wish.{Wish}
 use Rattle.flow_machine.specs.declared.Wish.TheVariants as W
-use Rattle.flow_machine.specs.After.{part_after_end, turn_push, turn_pull, turn_if, to_push, to_pull, part_after_form}
+use Rattle.flow_machine.specs.After.{part_after_end, turn_push, turn_pull, turn_if, to_push, to_pull, part_after_form, link_of}
 use Rattle.flow_cast.specs.Casts.{RoomyCast}
 use Rattle.flow_node.specs.Built.{is_built, is_wire_of, is_reserving, is_plain}
-use Rattle.flow_node.specs.Readied.{stepped, given_from, refused_at, body_ended, landed, runs_bodies, is_quiet, tuple_formed}
+use Rattle.flow_node.specs.Readied.{stepped, given_from, refused_at, body_ended, landed, runs_bodies, is_quiet, tuple_formed, is_from}
 use Rattle.flow_node.specs.NodeViews.{running_items, room_seen}
 use Rattle.flow_node.specs.Kept.{kind_of, part_of, coming_of, place_with, state_with, place_of, state_of, placed, is_counted, IsKept, Steps}
 use Rattle.flow_node.specs.Parts.{cast_in}
@@ -55,6 +55,7 @@ use Rattle.flow_node.specs.declared.store.StorePart.TheVariants as T
 use Rattle.flow_node.specs.declared.bar.Bar.{Bar}
 use Rattle.flow_node.specs.declared.bar.Bar.TheVariants as B
 use Rattle.flow_node.proofs.HoldLemmas.{takes-none}
+use Rattle.flow_node.proofs.StoreLemmas.{counted-more}
 
 -- ---- parts of any kind
 
@@ -101,6 +102,16 @@ kept-step b b' p p' kept s outs counted fits = record {
   whole = rw outs (s.whole kept.whole);
   counted = rw (s.is) counted;
   numbers = rw (s.casts) fits;
+}
+
+-- where an item comes that is lost, its number is gone
+pub kept-more : (b : Base) (p : Part) → IsKept b p → b.made + length (coming_of p) < 18446744073709551615 → IsKept (record b { made = b.made + 1; due = true }) p
+kept-more b p kept more = record {
+  built = kept.built;
+  wires = kept.wires;
+  whole = kept.whole;
+  counted = counted-more (part_of p) b.made (b.made + 1) (omega arith) kept.counted;
+  numbers = omega (arith, more);
 }
 
 -- ---- an out edge
@@ -337,6 +348,25 @@ never-refused b p l i built off h =
     let to = rw off at (and_right (is_wired (place_of b p) l) _ h) in
     let none : not (has_room (room (place_of b p) (state_of b p) l.port 0 false)) ≡ true = and_right (not (has [] l.edge)) _ to in
     clash _ none (ap not (never-full b p l.port 0 built))
+
+-- of the events over an edge it meets only gives as its to-node
+pub only-gives : {v : PlacedNode} (b : Base) (p : Part) → placed b p ≡ v → IsKept b p → (e : Event) → is_reserving e ≡ false → IsSome (link_of e) → is_from v.place.node e ≡ false → allows_at v.place v.state e ≡ true
+    → ((l : Link) (i : Item) (number : ℕ) (land : Land) → e ≡ E.Give l i number land → ⊥) → ⊥
+only-gives b p view kept (E.Give l i number land) met over off h never = never l i number land refl
+only-gives b p view kept (E.Refuse l i) met over off h never =
+    let away : eqb l.from b.node ≡ false = rw (← view) at off in
+    let allowed : allows_at (place_of b p) (state_of b p) (E.Refuse l i) ≡ true = rw (← view) at h in
+    never-refused b p l i kept.built away allowed
+only-gives b p view kept (E.None l) met over off h never =
+    let away : eqb l.from b.node ≡ false = rw (← view) at off in
+    let allowed : allows_at (place_of b p) (state_of b p) (E.None l) ≡ true = rw (← view) at h in
+    let to = rw away at (and_right (is_wired (place_of b p) l) _ allowed) in
+    let none : false ≡ true = to in
+    cc
+only-gives b p view kept (E.Hold l i number) met over off h never = cc
+only-gives b p view kept (E.Take l i) met over off h never = cc
+only-gives b p view kept (E.Free l i) met over off h never = cc
+only-gives b p view kept e met over off h never = cc
 
 -- ---- rest
 

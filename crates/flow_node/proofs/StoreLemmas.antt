@@ -21,7 +21,7 @@ use Rattle.flow_shape.specs.Places.{Place}
 use Rattle.flow_machine.specs.State.{StoreState, Part, store_part, keeper_part, body_part, input_part, limiter_part, join_part, reserve_part, broadcast_part, split_part, continue_part, option_list, item_of}
 use Rattle.flow_machine.specs.Offers.{when, store_front, first_greatest, first_of_greater, candidates, part_candidates, Room, lands, bars, part_room}
 use Rattle.flow_machine.specs.Enabled.{is_numbered}
-use Rattle.flow_machine.specs.After.{next_tag, unless_lost, part_after_arrival, part_after_give, part_after_refuse, part_after_start, part_after_shut, part_after_cancel, part_after_end}
+use Rattle.flow_machine.specs.After.{next_tag, part_after_arrival, part_after_give, part_after_refuse, part_after_start, part_after_shut, part_after_cancel, part_after_end}
 use Rattle.flow_machine.specs.PrintOrder.{insert_by, sorted_by, store_in_order, ranks_before, tagged_before}
 use Rattle.flow_machine.specs.Wishes.{offer_wish}
 use Rattle.flow_machine.specs.declared.Wish.{Wish}
@@ -40,17 +40,17 @@ one_offer None o = None
 one_offer (Some x) None = None
 one_offer (Some x) (Some i) = Some (W.Offer x i.id.no)
 
+pub no-offer : (o : Option ℕ) → one_offer o None ≡ None
+no-offer None = refl
+no-offer (Some y) = refl
+
 pub store-offers : (b : Base) (k : Kind) (s : StoreState) (xs : List ℕ) → offer_wish (place_with b k) (state_with b (store_part s)) xs ≡ one_offer (first xs) (first (may_go k (store_part s)))
 store-offers b k s [] = refl
 store-offers b k s (x ∷ xs) = by_first (first (may_go k (store_part s))) (store-offers b k s xs)
   where
-    none : (o : Option ℕ) → one_offer o None ≡ None
-    none None = refl
-    none (Some y) = refl
-
     by_first : (o : Option Item) → offer_wish (place_with b k) (state_with b (store_part s)) xs ≡ one_offer (first xs) o
         → option_or (option_map (λ (i : Item). W.Offer x i.id.no) o) (offer_wish (place_with b k) (state_with b (store_part s)) xs) ≡ one_offer (Some x) o
-    by_first None h = h ∙ none (first xs)
+    by_first None h = h ∙ no-offer (first xs)
     by_first (Some i) h = refl
 
 -- ---- one item by its number
@@ -202,19 +202,14 @@ counted-more (store_part s) m n le h =
     both_true (new-more m n s.items le (and_left (is_new m s.items) _ h)) (le-leb (s.next + length s.items) n (omega (arith, few, le)))
 counted-more p m n le h = refl
 
-counted-kept : (land : Land) (place : Place) (push : List ℕ) (p : Part) (port made tag n : ℕ) (val : Val) → is_counted made p ≡ true → is_counted (made + 1) (part_after_arrival place push p port (item_of n made tag val)) ≡ true
-counted-kept land place push (store_part s) port made tag n val h =
+-- an item came, and isn't lost
+pub counted-kept : (place : Place) (push : List ℕ) (p : Part) (port made tag n : ℕ) (val : Val) → is_counted made p ≡ true → is_counted (made + 1) (part_after_arrival place push p port (item_of n made tag val)) ≡ true
+counted-kept place push (store_part s) port made tag n val h =
     let few = leb-true (s.next + length s.items) made (and_right (is_new made s.items) _ h) in
     let one = length-append s.items (item_of n made tag val ∷ []) in
     both_true (all-append (λ (i : Item). ltb i.id.no (made + 1)) s.items (item_of n made tag val ∷ []) (new-more made (made + 1) s.items (omega arith) (and_left (is_new made s.items) _ h)) (both_true (lt-ltb made (made + 1) (omega arith)) refl))
     (le-leb _ _ (omega (arith, few, one)))
-counted-kept land place push p port made tag n val h = refl
-
--- an item came
-pub counted-landed : (land : Land) (place : Place) (push : List ℕ) (p : Part) (port made tag n : ℕ) (val : Val) → is_counted made p ≡ true
-    → is_counted (made + 1) (unless_lost land p (part_after_arrival place push p port (item_of n made tag val))) ≡ true
-counted-landed L.Lost place push p port made tag n val h = counted-more p made (made + 1) (omega arith) h
-counted-landed land place push p port made tag n val h = counted-kept land place push p port made tag n val h
+counted-kept place push p port made tag n val h = refl
 
 next-up : (k : Kind) (next : ℕ) → next_tag k next ≤ suc next
 next-up K.Sequencer next = omega arith

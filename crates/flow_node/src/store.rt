@@ -1,6 +1,6 @@
 //! The part of a node that gives each of its items to one edge.
 
-ghost use Rattle.std.specs.Prelude.{◌≡◌, ◌≤◌, ◌<◌, ◌^◌, true, [], length, None, filter, nat_eq, slice_get, OnOk, IfOk, IfErr};
+ghost use Rattle.std.specs.Prelude.{◌≡◌, ◌≤◌, ◌<◌, ◌^◌, ◌&&◌, true, [], length, None, filter, nat_eq, slice_get, OnOk, IfOk, IfErr};
 ghost use Rattle.std.specs.List.{find};
 ghost use Rattle.std.specs.Option.{option_copied};
 ghost use Rattle.flow_item.specs.Lists.{first};
@@ -28,6 +28,13 @@ pub(crate) enum StorePart {
     Buffer(BagStore),
     Priority(RankStore),
     Sequencer(SeqStore),
+}
+
+/// Whether it is the item of this number and tag.
+fn is_tagged(item: &Item, no: u64, tag: u64) -> bool
+    ensures { result ≡ (is_numbered no item.now && nat_eq item.now.tag tag) }
+{
+    item.id.no == no && item.tag == tag
 }
 
 impl StorePart {
@@ -106,7 +113,7 @@ impl StorePart {
     {
         for k in 0..self.len() {
             let item = self.item_at(k);
-            if item.id.no == no && item.tag == tag {
+            if is_tagged(item, no, tag) {
                 return Some(item);
             }
         }
