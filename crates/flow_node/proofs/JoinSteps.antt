@@ -98,17 +98,17 @@ module _ (b : Base) (j j' : JoinView) where
         whole = λ w. ap (λ (v : JoinView). is_slot_roomy b.outs.items v.slot && has_tuple_room b.outs.items v.room) same ∙ both_true (slot-given b.outs.items x j.slot roomy open_slot) (and_right (is_slot_roomy b.outs.items j.slot) (has_tuple_room b.outs.items j.room) whole);
       }
 
-  pub join-formed : (no : ℕ) → is_some (tuple_in j) ≡ true → is_some j.room ≡ true → ports_of j'.inputs ≡ ports_after_form (rule_of j.inputs) (tag_of (ready_parts j.inputs)) (ports_of j.inputs) → rule_of j'.inputs ≡ rule_of j.inputs
-      → j'.slot ≡ option_map (tuple_cast b.node no (ready_parts j.inputs)) j.room → j'.room ≡ None
-      → Steps b.outs.items (P.Join j) (P.Join j') (part_after_form (place b j) no (join_part_of j) (next_tuple (place b j) (join_part_of j))) []
-  join-formed no ready some ports rule slot none =
+  pub join-formed : (number : ℕ) → is_some (tuple_in j) ≡ true → is_some j.room ≡ true → ports_of j'.inputs ≡ ports_after_form (rule_of j.inputs) (tag_of (ready_parts j.inputs)) (ports_of j.inputs) → rule_of j'.inputs ≡ rule_of j.inputs
+      → j'.slot ≡ option_map (tuple_cast b.node number (ready_parts j.inputs)) j.room → j'.room ≡ None
+      → Steps b.outs.items (P.Join j) (P.Join j') (part_after_form (place b j) number (join_part_of j) (next_tuple (place b j) (join_part_of j))) []
+  join-formed number ready some ports rule slot none =
       let outs = b.outs.items in
       let parts = ready_parts j.inputs in
       let room = some-room j.room some in
-      let formed : j'.slot ≡ Some (tuple_cast b.node no parts room.0) = slot ∙ ap (option_map (tuple_cast b.node no parts)) room.1 in
-      let cast : option_map cast_in j'.slot ≡ Some (new_cast (tuple_of b.node no parts) 0) = ap (option_map cast_in) formed in
-      let after : part_after_form (place b j) no (join_part_of j) (next_tuple (place b j) (join_part_of j)) ≡ join_part record { ports = ports_after_form (join_kind j) (tag_of parts) (ports_of j.inputs); slot = Some (new_cast (tuple_of b.node no parts) 0) } =
-      ap (part_after_form (place b j) no (join_part_of j)) (tuple-is j ready) in
+      let formed : j'.slot ≡ Some (tuple_cast b.node number parts room.0) = slot ∙ ap (option_map (tuple_cast b.node number parts)) room.1 in
+      let cast : option_map cast_in j'.slot ≡ Some (new_cast (tuple_of b.node number parts) 0) = ap (option_map cast_in) formed in
+      let after : part_after_form (place b j) number (join_part_of j) (next_tuple (place b j) (join_part_of j)) ≡ join_part record { ports = ports_after_form (join_kind j) (tag_of parts) (ports_of j.inputs); slot = Some (new_cast (tuple_of b.node number parts) 0) } =
+      ap (part_after_form (place b j) number (join_part_of j)) (tuple-is j ready) in
       record {
         kind = rule;
         is = (λ i. join_part record { ports = ports i; slot = cast i }) ∙ sym after;

@@ -18,8 +18,8 @@ form-requires c =
       room = and_left (can_form p) (ltb b.made 18446744073709551615) forms;
     }
 
-pub overflow_add-self-base-made : goal.overflow_add-self-base-made
-overflow_add-self-base-made c =
+pub overflow_add-self : goal.overflow_add-self
+overflow_add-self c =
     let b = c.self.inside.base in
     let p = c.self.inside.part in
     let forms = rw (← c.self.view_is) at c.requires.room in

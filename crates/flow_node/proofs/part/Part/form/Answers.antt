@@ -10,8 +10,8 @@ form-requires-clause-ready c =
     let some : is_some (tuple_in c.in-Join.join) ≡ true = rw (c.in-Join.is) at c.requires.some in
     tuple-ready c.in-Join.join some
 
-pub returns-in-Join : goal.returns-in-Join
-returns-in-Join c =
+pub returns : goal.returns
+returns c =
     let some : is_some (tuple_in c.in-Join.join) ≡ true = rw (c.in-Join.is) at c.requires.some in
     let room = rw (c.in-Join.is) at c.requires.room in
     rw (c.in-Join.is) (join-formed c.args.base.now c.in-Join.join c.form.new.self c.args.no some room c.form.ensures.ports c.form.ensures.rule c.form.ensures.slot c.form.ensures.room)

@@ -18,4 +18,4 @@ returns-in-Function c =
 pub returns-in-Join : goal.returns-in-Join
 returns-in-Join c =
     let whole = rw (c.in-Join.is) at c.requires.whole in
-    rw (c.in-Join.is, slot-free c.args.base.now.outs.items c.in-Join.join whole) refl
+    rw (c.in-Join.is, slot-free c.args.base.now.outs.items c.in-Join.field-0 whole) refl

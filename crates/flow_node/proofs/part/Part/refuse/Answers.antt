@@ -14,5 +14,5 @@ returns-in-Function c =
 
 pub returns-in-Join : goal.returns-in-Join
 returns-in-Join c =
-    let switching : not (is_discarding (rule_of c.in-Join.join.inputs)) ≡ true = ap not (join-switches c.in-Join.join.inputs) in
-    rw (c.in-Join.is, switching) (join-refused c.args.base.now.outs.items c.in-Join.join c.args.edge)
+    let switching : not (is_discarding (rule_of c.in-Join.field-0.inputs)) ≡ true = ap not (join-switches c.in-Join.field-0.inputs) in
+    rw (c.in-Join.is, switching) (join-refused c.args.base.now.outs.items c.in-Join.field-0 c.args.edge)

@@ -3,4 +3,4 @@ use Rattle.flow_node.proofs.JoinLemmas.{join-switches}
 use Rattle.flow_node.proofs.part.Part.switches.Goals as goal
 
 pub returns-in-Join : goal.returns-in-Join
-returns-in-Join c = rw (c.in-Join.is) (sym (ap not (join-switches c.in-Join.join.inputs)))
+returns-in-Join c = rw (c.in-Join.is) (sym (ap not (join-switches c.in-Join.field-0.inputs)))
