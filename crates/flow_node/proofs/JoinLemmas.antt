@@ -234,15 +234,15 @@ some-made inputs room ids r at kept = by_room room at kept.made
     by_room (Some q) at made = sym (ap (λ (t : TupleRoom). t.vals.items) (same_Some q r at)) ∙ made.0
 
 -- the tuple of the parts, in the room that was made for it
-pub slot-made : (node no tag : ℕ) (parts : List Item) (vals values : List Val) (val : Val) (edges : ℕ) (room : Option ℕ) (c : RoomyCast)
-    → c ≡ record { cast = new_cast (item_of node no tag val) 0; edges = edges } → val ≡ list_of values → values ≡ vals ++ map (λ (i : Item). i.val) parts → vals ≡ [] → tag ≡ tag_of parts → room ≡ Some edges
-    → Some c ≡ option_map (tuple_cast node no parts) room
-slot-made node no tag parts vals values val edges room c cast value all none tagged at =
+pub slot-made : (node number tag : ℕ) (parts : List Item) (vals values : List Val) (val : Val) (edges : ℕ) (room : Option ℕ) (c : RoomyCast)
+    → c ≡ record { cast = new_cast (item_of node number tag val) 0; edges = edges } → val ≡ list_of values → values ≡ vals ++ map (λ (i : Item). i.val) parts → vals ≡ [] → tag ≡ tag_of parts → room ≡ Some edges
+    → Some c ≡ option_map (tuple_cast node number parts) room
+slot-made node number tag parts vals values val edges room c cast value all none tagged at =
     let parts_values : values ≡ map (λ (i : Item). i.val) parts = rw none at all in
     let tuple_value : val ≡ list_of (map (λ (i : Item). i.val) parts) = value ∙ ap list_of parts_values in
-    let item : item_of node no tag val ≡ tuple_of node no parts = λ i. item_of node no (tagged i) (tuple_value i) in
-    let made : c ≡ tuple_cast node no parts edges = cast ∙ ap (λ (t : Item). record { cast = new_cast t 0; edges = edges }) item in
-    ap Some made ∙ sym (ap (option_map (tuple_cast node no parts)) at)
+    let item : item_of node number tag val ≡ tuple_of node number parts = λ i. item_of node number (tagged i) (tuple_value i) in
+    let made : c ≡ tuple_cast node number parts edges = cast ∙ ap (λ (t : Item). record { cast = new_cast t 0; edges = edges }) item in
+    ap Some made ∙ sym (ap (option_map (tuple_cast node number parts)) at)
 
 -- ---- the kind of a join
 
