@@ -1,9 +1,11 @@
 ghost use Rattle.std.specs.Prelude.{◌≡◌, ◌-◌, ◌≤◌, ◌<◌, Some, None, true, [], ◌∷◌, ◌++◌, map, length, replicate, is_some, slice_get, OnOk, IfOk};
+ghost use Rattle.std.specs.List.{find};
 ghost use Rattle.std.specs.Option.{option_copied};
 ghost use Rattle.flow_item.specs.declared.item.Item.{Item};
 ghost use Rattle.flow_item.specs.Lists.{change_at};
 ghost use Rattle.flow_item.specs.Rooms.{roomy};
 ghost use Rattle.flow_machine.specs.Offers.{tag_of};
+ghost use Rattle.flow_machine.specs.Enabled.{is_numbered};
 ghost use Rattle.flow_machine.specs.After.{ports_after_form};
 ghost use Rattle.flow_machine.specs.WishEvents.{where_some, id_of};
 
@@ -91,6 +93,15 @@ impl KeyJoin {
     {
         let at = &self.ports[port as usize];
         at.at(k)
+    }
+
+    /// The first item of this number that waits at a port. Linear in the items there.
+    pub fn item(&self, port: u32, no: u64) -> Option<&Item>
+        requires { port < length self.now.ports }
+        ensures { option_copied result ≡ where_some (slice_get self.now.ports port) (find (is_numbered no)) }
+    {
+        let at = &self.ports[port as usize];
+        at.item(no)
     }
 
     /// An item comes to a port, where it is the last.

@@ -1,9 +1,10 @@
 ghost use Rattle.std.specs.Prelude.{◌≡◌, true, None, Some, [], ◌∷◌, ◌++◌, slice_get, OnOk};
-ghost use Rattle.std.specs.List.{list_any};
+ghost use Rattle.std.specs.List.{list_any, find};
 ghost use Rattle.std.specs.Option.{option_copied};
 ghost use Rattle.flow_item.specs.Lists.{first, drop_first};
 ghost use Rattle.flow_machine.specs.Offers.{with_tag};
 ghost use Rattle.flow_machine.specs.After.{has_tag};
+ghost use Rattle.flow_machine.specs.Enabled.{is_numbered};
 
 use crate::tags::{Places, pop_place, push_place, reserve_place};
 use flow_item::{Item, NoMemory};
@@ -115,6 +116,13 @@ impl KeyPort {
     {
         item_at(&self.slots, k)
     }
+
+    /// The first item of this number. Linear in the items and the holes among them.
+    pub(crate) fn item(&self, no: u64) -> Option<&Item>
+        ensures { option_copied result ≡ find (is_numbered no) self.now.items }
+    {
+        item_numbered(&self.slots, no)
+    }
 }
 
 ghost use Rattle.std.specs.Prelude.{ℕ, ◌+◌, ◌<◌, ◌^◌, slice_set};
@@ -169,6 +177,20 @@ fn item_at(slots: &VecDeque<Option<Item>>, k: usize) -> Option<&Item>
                 return Some(item);
             }
             left -= 1;
+        }
+    }
+    None
+}
+
+/// The first item of this number in the slots.
+fn item_numbered(slots: &VecDeque<Option<Item>>, no: u64) -> Option<&Item>
+    ensures { option_copied result ≡ find (is_numbered no) (filled slots.now.items) }
+{
+    for slot in 0..slots.len() {
+        if let Some(item) = &slots[slot] {
+            if item.id.no == no {
+                return Some(item);
+            }
         }
     }
     None

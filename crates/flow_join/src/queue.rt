@@ -1,9 +1,11 @@
 ghost use Rattle.std.specs.Prelude.{◌≡◌, ◌+◌, ◌-◌, ◌≤◌, ◌<◌, ℕ, List, Some, true, [], ◌∷◌, ◌++◌, map, length, replicate, is_some, slice_get, OnOk, IfOk};
+ghost use Rattle.std.specs.List.{find};
 ghost use Rattle.std.specs.Option.{option_copied};
 ghost use Rattle.flow_item.specs.declared.item.Item.{Item};
 ghost use Rattle.flow_item.specs.Lists.{change_at};
 ghost use Rattle.flow_item.specs.Rooms.{roomy};
 ghost use Rattle.flow_machine.specs.Offers.{tag_of};
+ghost use Rattle.flow_machine.specs.Enabled.{is_numbered};
 ghost use Rattle.flow_machine.specs.After.{ports_after_form};
 ghost use Rattle.flow_machine.specs.WishEvents.{where_some, id_of};
 
@@ -94,6 +96,14 @@ impl QueueJoin {
         ensures { option_copied result ≡ where_some (slice_get self.now.ports port) (λ items. slice_get items k) }
     {
         self.ports[port as usize].get(k)
+    }
+
+    /// The first item of this number that waits at a port. Linear in the items there.
+    pub fn item(&self, port: u32, no: u64) -> Option<&Item>
+        requires { port < length self.now.ports }
+        ensures { option_copied result ≡ where_some (slice_get self.now.ports port) (find (is_numbered no)) }
+    {
+        item_in(&self.ports[port as usize], no)
     }
 
     /// An item comes to a port, where it is the last.
@@ -188,6 +198,13 @@ fn front_of(ring: &VecDeque<Item>) -> Option<&Item>
     ensures { option_copied result ≡ first ring.now.items }
 {
     ring.front()
+}
+
+/// The first item of this number in a ring.
+fn item_in(ring: &VecDeque<Item>, no: u64) -> Option<&Item>
+    ensures { option_copied result ≡ find (is_numbered no) ring.now.items }
+{
+    ring.iter().find(|item| item.id.no == no)
 }
 
 /// The tag of the first item of a ring.

@@ -1,6 +1,8 @@
 -- What the steps of a part leave of its node.
-use Rattle.std.proofs.Common.{◌≡◌, ℕ, suc, ◌+◌, ◌≤◌, Bool, true, false, not, ◌&&◌, ◌||◌, cond, eqb, Option, Some, None, List, [], ◌∷◌, length, map, drop, refl, sym, ap, ◌∙◌, arith, eq-eqb}
-use Rattle.std.specs.Prelude.{take, is_none, is_some}
+use Rattle.std.proofs.Common.{◌≡◌, ℕ, suc, ◌+◌, ◌≤◌, Bool, true, false, not, ◌&&◌, ◌||◌, cond, eqb, ltb, Option, Some, None, Err, List, [], ◌∷◌, length, map, drop, refl, sym, ap, ◌∙◌, arith, eq-eqb, ◌<◌}
+use Rattle.flow_node.proofs.JoinLemmas.{join-keeps}
+use Rattle.flow_item.specs.declared.item.Id.{Id}
+use Rattle.std.specs.Prelude.{is_none, is_some, IsSome}
 use Rattle.std.specs.Option.{option_map, option_or}
 use Rattle.std.specs.List.{list_all, list_any, find}
 use Rattle.std.proofs.lemmas.Bool.{eqb-true}
@@ -10,7 +12,11 @@ use Rattle.flow_item.specs.declared.item.Msg.{Msg}
 use Rattle.flow_item.specs.declared.event.Event.{Event}
 use Rattle.flow_item.specs.declared.event.Event.TheVariants as E
 use Rattle.flow_item.specs.declared.event.Link.{Link}
+use Rattle.flow_item.specs.declared.val.Val.{Val}
 use Rattle.flow_item.specs.declared.event.Land.{Land}
+use Rattle.flow_item.specs.declared.event.Land.TheVariants as L
+use Rattle.flow_item.specs.declared.event.Cause.TheVariants as C
+use Rattle.flow_item.specs.declared.event.PutAnswer.TheVariants.{Accepted}
 use Rattle.flow_item.specs.declared.event.Ended.{Ended}
 use Rattle.flow_item.specs.declared.event.Party.{Party}
 use Rattle.flow_item.specs.declared.event.Party.TheVariants.{Node}
@@ -23,43 +29,53 @@ use Rattle.flow_item.proofs.Tests.{and_left, and_right}
 use Rattle.flow_item.proofs.Equal.{item-equal}
 use Rattle.flow_shape.specs.declared.Kind.TheVariants as K
 use Rattle.flow_shape.specs.declared.Wire.{Wire}
-use Rattle.flow_shape.specs.Kinds.{is_keeping, is_discarding}
+use Rattle.flow_shape.specs.Kinds.{is_keeping, is_discarding, is_for_callers}
 use Rattle.flow_shape.specs.Wiring.{is_some_and}
 use Rattle.flow_shape.specs.Places.{Place, edges_out, over, has_ends, is_wired, wire_in, from_keeps, edge_switches}
 use Rattle.flow_shape.proofs.Valid.{passes-some}
 use Rattle.flow_machine.specs.State as S
 use Rattle.flow_machine.specs.State.{PlacedNode, NodeState, casts_of}
-use Rattle.flow_machine.specs.Offers.{candidates, room, lands, offer_end, end_of_offer, outbox_end}
-use Rattle.flow_machine.specs.Enabled.{allows_at, at_rest, is_numbered, same_bool, may_end}
+use Rattle.flow_machine.specs.Offers.{candidates, Room, lands, bars, by_hold, room, room_under, has_room, offer_end, end_of_offer, outbox_end, next_tuple, slot_end}
+use Rattle.flow_machine.specs.Enabled.{allows_at, at_rest, is_numbered, same_bool, same_land, lands_as, is_answer, part_takes_holds, may_end, are_parts}
 use Rattle.flow_machine.specs.Wishes.{offer_wish, shut_wish}
-use Rattle.flow_machine.specs.WishEvents.{given_event, offer_event, ask_event}
+use Rattle.flow_machine.specs.WishEvents.{given_event, offer_event, ask_event, tuple_event, form_event, id_of}
 use Rattle.flow_machine.specs.declared.Wish.{Wish}
 use Rattle.flow_machine.specs.declared.Wish.TheVariants as W
-use Rattle.flow_machine.specs.After.{part_after_end, turn_push, turn_pull, turn_if, to_push, to_pull}
+use Rattle.flow_machine.specs.After.{part_after_end, turn_push, turn_pull, turn_if, to_push, to_pull, part_after_form, link_of}
 use Rattle.flow_cast.specs.Casts.{RoomyCast}
-use Rattle.flow_node.specs.Built.{is_wire_of, is_reserving, is_plain}
-use Rattle.flow_node.specs.Readied.{stepped, given_from, refused_at, body_ended, landed, runs_bodies}
-use Rattle.flow_node.specs.NodeViews.{running_items}
-use Rattle.flow_node.specs.Kept.{kind_of, part_of, coming_of, place_with, state_with, place_of, state_of, placed, IsKept, Steps}
-use Rattle.flow_node.specs.Parts.{cast_in, value_of}
+use Rattle.flow_node.specs.Built.{is_built, is_wire_of, is_reserving, is_plain}
+use Rattle.flow_node.specs.Readied.{stepped, given_from, refused_at, body_ended, landed, runs_bodies, is_quiet, tuple_formed, is_from}
+use Rattle.flow_node.specs.NodeViews.{running_items, room_seen}
+use Rattle.flow_node.specs.Kept.{kind_of, part_of, coming_of, place_with, state_with, place_of, state_of, placed, is_counted, IsKept, Steps}
+use Rattle.flow_node.specs.Parts.{cast_in}
 use Rattle.flow_node.specs.declared.base.Base.{Base}
 use Rattle.flow_node.specs.declared.part.Part.{Part}
 use Rattle.flow_node.specs.declared.part.Part.TheVariants as P
+use Rattle.flow_node.specs.declared.store.StorePart.TheVariants as T
+use Rattle.flow_node.specs.declared.bar.Bar.{Bar}
+use Rattle.flow_node.specs.declared.bar.Bar.TheVariants as B
 use Rattle.flow_node.proofs.HoldLemmas.{takes-none}
+use Rattle.flow_node.proofs.StoreLemmas.{counted-more}
 
 -- ---- parts of any kind
 
 pub part-plain : (p : Part) → is_plain (part_of p) ≡ true
-part-plain (P.Queue q) = refl
+part-plain (P.Store s) = refl
 part-plain (P.Function f) = refl
+part-plain (P.Join j) = refl
 
 pub keeps-none : (p : Part) → is_keeping (kind_of p) ≡ false
-keeps-none (P.Queue q) = refl
+keeps-none (P.Store (T.Queue q)) = refl
+keeps-none (P.Store (T.Buffer q)) = refl
+keeps-none (P.Store (T.Priority r)) = refl
+keeps-none (P.Store (T.Sequencer t)) = refl
 keeps-none (P.Function f) = refl
+keeps-none (P.Join j) = join-keeps j.inputs
 
 -- a body that may end runs
 pub ends-running : (p : Part) (i : ℕ) (outs : List Msg) → may_end (kind_of p) (part_of p) i outs ≡ true → list_any (is_numbered i) (running_items (part_of p)) ≡ true
-ends-running (P.Queue q) i outs h = cc
+ends-running (P.Store s) i outs h = cc
+ends-running (P.Join j) i outs h = cc
 ends-running (P.Function f) i outs h = and_left (list_any (is_numbered i) f.work.running) true h
 
 pub any-open : {X : Type 0} (p : X → Bool) (xs : List X) → list_any p xs ≡ true → is_empty xs ≡ false
@@ -79,11 +95,23 @@ clash false h g = cc
 pub placed-is : (b : Base) (p p' : Part) {outs : List Wire} {part : S.Part} {coming : List RoomyCast} → Steps outs p p' part coming → placed b p' ≡ record { place = place_with b (kind_of p); state = state_with b part }
 placed-is b p p' s = λ i. record { place = place_with b (s.kind i); state = state_with b (s.is i) }
 
-pub kept-step : (b b' : Base) (p p' : Part) {part : S.Part} {coming : List RoomyCast} → IsKept b p → Steps b.outs.items p p' part coming → b'.outs ≡ b.outs → b'.made + length coming ≤ 18446744073709551615 → IsKept b' p'
-kept-step b b' p p' kept s outs fits = record {
+pub kept-step : (b b' : Base) (p p' : Part) {part : S.Part} {coming : List RoomyCast} → IsKept b p → Steps b.outs.items p p' part coming → b'.outs ≡ b.outs → is_counted b'.made part ≡ true → b'.made + length coming ≤ 18446744073709551615 → IsKept b' p'
+kept-step b b' p p' kept s outs counted fits = record {
+  built = rw (s.kind) kept.built;
   wires = rw (outs, s.kind) kept.wires;
   whole = rw outs (s.whole kept.whole);
+  counted = rw (s.is) counted;
   numbers = rw (s.casts) fits;
+}
+
+-- where an item comes that is lost, its number is gone
+pub kept-more : (b : Base) (p : Part) → IsKept b p → b.made + length (coming_of p) < 18446744073709551615 → IsKept (record b { made = b.made + 1; due = true }) p
+kept-more b p kept more = record {
+  built = kept.built;
+  wires = kept.wires;
+  whole = kept.whole;
+  counted = counted-more (part_of p) b.made (b.made + 1) (omega arith) kept.counted;
+  numbers = omega (arith, more);
 }
 
 -- ---- an out edge
@@ -216,28 +244,129 @@ module _ {v : PlacedNode} (b : Base) (p : Part) (view : placed b p ≡ v) (kept 
 
 -- ---- offers
 
-pub offer-lands : (b : Base) (p : Part) (l : Link) (i : Item) (land : Land) → room (place_of b p) (state_of b p) l.port i.tag false ≡ lands land → E.Give l i b.made land ≡ offer_event l i (placed b p)
-offer-lands b (P.Queue q) l i land h = ap (given_event l i b.made) (sym h)
-offer-lands b (P.Function f) l i land h = ap (given_event l i b.made) (sym h)
+pub offer-lands : (b : Base) (p : Part) (l : Link) (i : Item) (land : Land) → lands land ≡ room (place_of b p) (state_of b p) l.port i.tag false → E.Give l i b.made land ≡ offer_event l i (placed b p)
+offer-lands b (P.Store s) l i land h = ap (given_event l i b.made) h
+offer-lands b (P.Function f) l i land h = ap (given_event l i b.made) h
+offer-lands b (P.Join j) l i land h = ap (given_event l i b.made) h
+
+pub offer-bars : (b : Base) (p : Part) (l : Link) (i : Item) (bar : Bar) → room_seen (Err bar) ≡ room (place_of b p) (state_of b p) l.port i.tag false → E.Refuse l i.id.no ≡ offer_event l i (placed b p)
+offer-bars b (P.Store s) l i (B.Cause cause) h = ap (given_event l i b.made) h
+offer-bars b (P.Store s) l i B.Held h = ap (given_event l i b.made) h
+offer-bars b (P.Function f) l i (B.Cause cause) h = ap (given_event l i b.made) h
+offer-bars b (P.Function f) l i B.Held h = ap (given_event l i b.made) h
+offer-bars b (P.Join j) l i (B.Cause cause) h = ap (given_event l i b.made) h
+offer-bars b (P.Join j) l i B.Held h = ap (given_event l i b.made) h
 
 pub ask-offers : (b : Base) (p : Part) (l : Link) (i : Item) → offer_event l i (placed b p) ≡ ask_event l (Some i) (placed b p)
-ask-offers b (P.Queue q) l i = refl
+ask-offers b (P.Store s) l i = refl
 ask-offers b (P.Function f) l i = refl
+ask-offers b (P.Join j) l i = refl
 
-pub none-offered : (b : Base) (is : List Item) (xs : List ℕ) → None ≡ first is → offer_wish (place_with b (K.Queue None)) (state_with b (S.store_part record { items = is; lock = None; next = 0 })) xs ≡ None
-none-offered b [] [] h = refl
-none-offered b [] (x ∷ xs) h = none-offered b [] xs h
-none-offered b (i ∷ is) xs h = cc
+-- ---- room
 
-pub first-given : (items : List Item) (i : Item) → list_any (same_item i) (take 1 items) ≡ true → (drop_first (is_numbered i.id.no) items ≡ drop 1 items) × (option_map value_of (first items) ≡ Some i.val)
-first-given [] i h = cc
-first-given (j ∷ js) i h =
-    let same : i ≡ j = item-equal i j (or_false _ h) in
-    (rw (same, eq-eqb j.id.no j.id.no refl), ap (λ (k : Item). Some k.val) (sym same))
+under-open : (m : ℕ) (capacity : Option ℕ) → by_hold ≡ room_under m capacity → ⊥
+under-open m None h = cc
+under-open m (Some n) h = by_test (ltb m n) h
   where
-    or_false : (b : Bool) → (b || false) ≡ true → b ≡ true
-    or_false true h = refl
-    or_false false h = h
+    by_test : (b : Bool) → by_hold ≡ cond b (lands L.Kept) (bars (C.Full n)) → ⊥
+    by_test true h = cc
+    by_test false h = cc
+
+come-open : (b by_caller : Bool) → by_hold ≡ cond b (cond by_caller (bars C.Duplicate) (lands L.Lost)) (lands L.Kept) → ⊥
+come-open true true h = cc
+come-open true false h = cc
+come-open false by_caller h = cc
+
+-- no item comes to it by a hold
+pub never-held : (b : Base) (p : Part) (port tag : ℕ) (by_caller : Bool) → by_hold ≡ room (place_of b p) (state_of b p) port tag by_caller → ⊥
+never-held b (P.Store (T.Queue q)) port tag by_caller h = under-open (length q.items) q.capacity h
+never-held b (P.Store (T.Buffer q)) port tag by_caller h = under-open (length q.items) q.capacity h
+never-held b (P.Store (T.Priority r)) port tag by_caller h = under-open (length r.items) None h
+never-held b (P.Store (T.Sequencer t)) port tag by_caller h = come-open (ltb tag t.state.next || list_any (λ (i : Item). eqb i.tag tag) t.state.items) by_caller h
+never-held b (P.Join j) port tag by_caller h = cc
+never-held b (P.Function f) port tag by_caller h = by_test f.work.cancelled h
+  where
+    by_test : (b : Bool) → by_hold ≡ cond b (lands L.Lost) (lands L.Kept) → ⊥
+    by_test true h = cc
+    by_test false h = cc
+
+built-queue : (m : ℕ) (capacity : Option ℕ) → is_built (K.Queue capacity) ≡ true → has_room (room_under m capacity) ≡ true
+built-queue m None h = refl
+built-queue m (Some n) h = cc
+
+built-buffer : (m : ℕ) (capacity : Option ℕ) → is_built (K.Buffer capacity) ≡ true → has_room (room_under m capacity) ≡ true
+built-buffer m None h = refl
+built-buffer m (Some n) h = cc
+
+-- what comes over an edge is never refused
+never-full : (b : Base) (p : Part) (port tag : ℕ) → is_built (kind_of p) ≡ true → has_room (room (place_of b p) (state_of b p) port tag false) ≡ true
+never-full b (P.Store (T.Queue q)) port tag h = built-queue (length q.items) q.capacity h
+never-full b (P.Store (T.Buffer q)) port tag h = built-buffer (length q.items) q.capacity h
+never-full b (P.Store (T.Priority r)) port tag h = refl
+never-full b (P.Store (T.Sequencer t)) port tag h = by_test (ltb tag t.state.next || list_any (λ (i : Item). eqb i.tag tag) t.state.items)
+  where
+    by_test : (b : Bool) → has_room (cond b (lands L.Lost) (lands L.Kept)) ≡ true
+    by_test true = refl
+    by_test false = refl
+never-full b (P.Join j) port tag h = refl
+never-full b (P.Function f) port tag h = by_test f.work.cancelled
+  where
+    by_test : (b : Bool) → has_room (cond b (lands L.Lost) (lands L.Kept)) ≡ true
+    by_test true = refl
+    by_test false = refl
+
+same-land : (a b : Land) → same_land a b ≡ true → a ≡ b
+same-land L.Kept L.Kept h = refl
+same-land L.Eaten L.Eaten h = refl
+same-land L.Lost L.Lost h = refl
+same-land L.Over L.Over h = refl
+same-land a b h = cc
+
+-- how an accepted put lands, and what is given over an edge
+put-lands : (made number : ℕ) (r : Room) (land : Land) → is_answer made r (Accepted number land) ≡ true → r ≡ lands land
+put-lands made number (lands a) land h = ap lands (same-land a land (and_right (eqb number made) _ h))
+put-lands made number (bars cause) land h = cc
+put-lands made number by_hold land h = cc
+
+edge-lands : (r : Room) (land : Land) → lands_as r land ≡ true → r ≡ lands land
+edge-lands (lands a) land h = ap lands (same-land a land h)
+edge-lands (bars cause) land h = cc
+edge-lands by_hold land h = cc
+
+-- the caller's answer, whose land is that of the room
+pub put-comes : (v : PlacedNode) (c n port tag : ℕ) (val : Val) (number : ℕ) (land : Land) → allows_at v.place v.state (E.Put c n port tag val (Accepted number land)) ≡ true → room v.place v.state port tag true ≡ lands land
+put-comes v c n port tag val number land h = put-lands v.state.made number (room v.place v.state port tag true) land (and_right (is_for_callers v.place.kind port) _ h)
+
+pub edge-comes : (v : PlacedNode) (l : Link) (i : Item) (number : ℕ) (land : Land) → eqb l.from v.place.node ≡ false → allows_at v.place v.state (E.Give l i number land) ≡ true → room v.place v.state l.port i.tag false ≡ lands land
+edge-comes v l i number land off h =
+    let to = rw off at (and_right (is_wired v.place l) _ h) in
+    edge-lands (room v.place v.state l.port i.tag false) land (and_right (not (part_takes_holds v.state.part l.port) && eqb number v.state.made) _ to)
+
+-- no offer is refused
+pub never-refused : (b : Base) (p : Part) (l : Link) (i : ℕ) → is_built (kind_of p) ≡ true → eqb l.from b.node ≡ false → allows_at (place_of b p) (state_of b p) (E.Refuse l i) ≡ true → ⊥
+never-refused b p l i built off h =
+    let to = rw off at (and_right (is_wired (place_of b p) l) _ h) in
+    let none : not (has_room (room (place_of b p) (state_of b p) l.port 0 false)) ≡ true = and_right (not (has [] l.edge)) _ to in
+    clash _ none (ap not (never-full b p l.port 0 built))
+
+-- of the events over an edge it meets only gives as its to-node
+pub only-gives : {v : PlacedNode} (b : Base) (p : Part) → placed b p ≡ v → IsKept b p → (e : Event) → is_reserving e ≡ false → IsSome (link_of e) → is_from v.place.node e ≡ false → allows_at v.place v.state e ≡ true
+    → ((l : Link) (i : Item) (number : ℕ) (land : Land) → e ≡ E.Give l i number land → ⊥) → ⊥
+only-gives b p view kept (E.Give l i number land) met over off h never = never l i number land refl
+only-gives b p view kept (E.Refuse l i) met over off h never =
+    let away : eqb l.from b.node ≡ false = rw (← view) at off in
+    let allowed : allows_at (place_of b p) (state_of b p) (E.Refuse l i) ≡ true = rw (← view) at h in
+    never-refused b p l i kept.built away allowed
+only-gives b p view kept (E.None l) met over off h never =
+    let away : eqb l.from b.node ≡ false = rw (← view) at off in
+    let allowed : allows_at (place_of b p) (state_of b p) (E.None l) ≡ true = rw (← view) at h in
+    let to = rw away at (and_right (is_wired (place_of b p) l) _ allowed) in
+    let none : false ≡ true = to in
+    cc
+only-gives b p view kept (E.Hold l i number) met over off h never = cc
+only-gives b p view kept (E.Take l i) met over off h never = cc
+only-gives b p view kept (E.Free l i) met over off h never = cc
+only-gives b p view kept e met over off h never = cc
 
 -- ---- rest
 
@@ -262,14 +391,22 @@ and_true : (b : Bool) → (b && true) ≡ b
 and_true true = refl
 and_true false = refl
 
-pub rest-is : (b : Base) (p : Part) → at_rest (place_of b p) (state_of b p) ≡ (is_none (offer_wish (place_of b p) (state_of b p) b.push.items) && is_none (shut_wish (S.offer (part_of p)) (offer_end (place_of b p) (state_of b p))))
-rest-is b (P.Queue q) =
-    let o = none-open (place_of b (P.Queue q)) (state_of b (P.Queue q)) b.push.items in
+slot-ended : (f : S.Cast → Option Ended) (o : Option S.Cast) → is_none (shut_wish (first (S.option_list o)) (end_of_offer f o)) ≡ is_none (end_of_offer f o)
+slot-ended f None = refl
+slot-ended f (Some c) = none-ended f (Some c)
+
+pub rest-is : (b : Base) (p : Part) → at_rest (place_of b p) (state_of b p) ≡ (is_quiet (place_of b p) (state_of b p) && is_none (next_tuple (place_of b p) (part_of p)))
+rest-is b (P.Store s) =
+    let o = none-open (place_of b (P.Store s)) (state_of b (P.Store s)) b.push.items in
     rw (o, and_true, and_true, and_true, and_true, and_true)
 rest-is b (P.Function f) =
     let o = none-open (place_of b (P.Function f)) (state_of b (P.Function f)) b.push.items in
     let e = none-ended (λ c. outbox_end (edges_out (place_of b (P.Function f)) c.port) c) (S.offer (part_of (P.Function f))) in
     rw (o, e, and_true, and_true, and_true, and_true)
+rest-is b (P.Join j) =
+    let o = none-open (place_of b (P.Join j)) (state_of b (P.Join j)) b.push.items in
+    let e = slot-ended (slot_end b.push.items) (option_map cast_in j.slot) in
+    rw (o, e, and_true, and_true, and_true)
 
 pub running-runs : (p : S.Part) (i : ℕ) → list_any (is_numbered i) (running_items p) ≡ true → runs_bodies p ≡ true
 running-runs (S.body_part w) i h = refl
@@ -285,9 +422,61 @@ module _ (b : Base) (p : Part) (w : Option Wish) (r : Bool) (offers : w ≡ offe
   no-offers : is_none (offer_wish (place_of b p) (state_of b p) b.push.items) ≡ r
   no-offers = ap is_none (sym offers) ∙ none-is w r is
 
-  -- where something is offered, the node isn't at rest
-  pub rest-else : r ≡ false → r ≡ at_rest (place_of b p) (state_of b p)
-  rest-else f = f ∙ sym (rest-is b p ∙ ap (λ (q : Bool). q && is_none (shut_wish (S.offer (part_of p)) (offer_end (place_of b p) (state_of b p)))) (no-offers ∙ f))
+  pub quiet-else : r ≡ false → r ≡ is_quiet (place_of b p) (state_of b p)
+  quiet-else f = f ∙ sym (ap (λ (q : Bool). q && is_none (shut_wish (S.offer (part_of p)) (offer_end (place_of b p) (state_of b p)))) (no-offers ∙ f))
 
-  pub rest-then : (e : Option Wish) (q : Bool) → r ≡ true → e ≡ shut_wish (S.offer (part_of p)) (offer_end (place_of b p) (state_of b p)) → is_some e ≡ not q → q ≡ at_rest (place_of b p) (state_of b p)
-  rest-then e q t ends has = sym (rest-is b p ∙ ap (λ (q : Bool). q && is_none (shut_wish (S.offer (part_of p)) (offer_end (place_of b p) (state_of b p)))) (no-offers ∙ t) ∙ ap is_none (sym ends) ∙ none-is e q has)
+  pub quiet-then : (e : Option Wish) (q : Bool) → r ≡ true → e ≡ shut_wish (S.offer (part_of p)) (offer_end (place_of b p) (state_of b p)) → is_some e ≡ not q → q ≡ is_quiet (place_of b p) (state_of b p)
+  quiet-then e q t ends has = sym (ap (λ (q : Bool). q && is_none (shut_wish (S.offer (part_of p)) (offer_end (place_of b p) (state_of b p)))) (no-offers ∙ t) ∙ ap is_none (sym ends) ∙ none-is e q has)
+
+none-some : {X : Type 0} (o : Option X) → not (is_some o) ≡ is_none o
+none-some None = refl
+none-some (Some x) = refl
+
+module _ (b : Base) (p : Part) (q : Bool) (quiet : q ≡ is_quiet (place_of b p) (state_of b p)) where
+  -- where something is offered, the node isn't at rest
+  pub rest-else : q ≡ false → q ≡ at_rest (place_of b p) (state_of b p)
+  rest-else f = f ∙ sym (rest-is b p ∙ ap (λ (q : Bool). q && is_none (next_tuple (place_of b p) (part_of p))) (sym quiet ∙ f))
+
+  pub rest-then : (f : Bool) → q ≡ true → f ≡ is_some (next_tuple (place_of b p) (part_of p)) → not f ≡ at_rest (place_of b p) (state_of b p)
+  rest-then f t forms = ap not forms ∙ none-some (next_tuple (place_of b p) (part_of p)) ∙ sym (rest-is b p ∙ ap (λ (q : Bool). q && is_none (next_tuple (place_of b p) (part_of p))) (sym quiet ∙ t))
+
+-- ---- tuples
+
+pub tuple-event-is : (b : Base) (p : Part) → tuple_event (placed b p) (part_of p) ≡ form_event b.node b.made (next_tuple (place_of b p) (part_of p))
+tuple-event-is b (P.Store s) = refl
+tuple-event-is b (P.Function f) = refl
+tuple-event-is b (P.Join j) = refl
+
+pub formed-event : (n made : ℕ) (o : Option (List Item)) (ids : List Id) → Some ids ≡ option_map (map id_of) o → Some (E.Form n made ids) ≡ form_event n made o
+formed-event n made None ids h = cc
+formed-event n made (Some is) ids h = let same : ids ≡ map id_of is = cc in rw same refl
+
+pub no-event : (n made : ℕ) (o : Option (List Item)) → None ≡ option_map (map id_of) o → None ≡ form_event n made o
+no-event n made None h = refl
+no-event n made (Some is) h = cc
+
+-- a tuple that may be formed is there
+pub form-allowed : (v : PlacedNode) (n number : ℕ) (ids : List Id) → allows_at v.place v.state (E.Form n number ids) ≡ true → is_some (next_tuple v.place v.state.part) ≡ true
+form-allowed v n number ids h = by_next (next_tuple v.place v.state.part) (and_right (eqb number v.state.made) _ h)
+  where
+    by_next : (o : Option (List Item)) → are_parts o ids ≡ true → is_some o ≡ true
+    by_next None h = cc
+    by_next (Some is) h = refl
+
+-- where a tuple is formed, no casts are to come
+pub formed-coming : (b : Base) (p : Part) → is_some (next_tuple (place_of b p) (part_of p)) ≡ true → coming_of p ≡ []
+formed-coming b (P.Store s) h = refl
+formed-coming b (P.Function f) h = cc
+formed-coming b (P.Join j) h = refl
+
+pub formed-counted : (b : Base) (p : Part) (made number : ℕ) → is_some (next_tuple (place_of b p) (part_of p)) ≡ true → is_counted made (part_after_form (place_of b p) number (part_of p) (next_tuple (place_of b p) (part_of p))) ≡ true
+formed-counted b (P.Store s) made number h = cc
+formed-counted b (P.Function f) made number h = cc
+formed-counted b (P.Join j) made number h = by_next (next_tuple (place_of b (P.Join j)) (part_of (P.Join j)))
+  where
+    by_next : (o : Option (List Item)) → is_counted made (part_after_form (place_of b (P.Join j)) number (part_of (P.Join j)) o) ≡ true
+    by_next None = refl
+    by_next (Some is) = refl
+
+pub formed-after : {v : PlacedNode} (b : Base) (p p' : Part) (number : ℕ) → placed b p ≡ v → kind_of p' ≡ kind_of p → part_of p' ≡ part_after_form (place_of b p) number (part_of p) (next_tuple (place_of b p) (part_of p)) → placed (record b { made = b.made + 1; due = true }) p' ≡ tuple_formed v number
+formed-after b p p' number view kind is = rw (← view, kind, is)

@@ -1,5 +1,7 @@
 -- What a test sees of a node that it steps.
-use Rattle.std.proofs.Common.{◌≡◌, ℕ, Bool, true, false, not, ◌||◌, cond, Option, Some, None, List, [], ◌∷◌, Bor, refl, sym, ap, ◌∙◌, eq-eqb}
+use Rattle.std.proofs.Common.{◌≡◌, ℕ, Bool, true, false, not, ◌||◌, cond, Option, Some, None, List, [], ◌∷◌, Bor, refl, sym, ap, ◌∙◌, eq-eqb, ◌&&◌, map, eqb}
+use Rattle.flow_machine.specs.WishEvents.{event_of, tuple_event, form_event, id_of}
+use Rattle.flow_item.specs.declared.item.Id.{Id}
 use Rattle.std.specs.List.{list_any, find}
 use Rattle.std.specs.Prelude.{is_some}
 use Rattle.std.specs.Bool.{then_some}
@@ -9,7 +11,7 @@ use Rattle.flow_item.specs.declared.item.Msg.{Msg}
 use Rattle.flow_item.specs.declared.event.Land.{Land}
 use Rattle.flow_item.specs.declared.event.Link.{Link}
 use Rattle.flow_item.specs.declared.event.Event.TheVariants as E
-use Rattle.flow_item.specs.Values.{same_item}
+use Rattle.flow_item.specs.Values.{same_item, same_ids}
 use Rattle.flow_item.specs.declared.event.Ended.{Ended}
 use Rattle.flow_item.specs.declared.event.Ended.TheVariants as Z
 use Rattle.flow_item.specs.Lists.{first}
@@ -20,10 +22,10 @@ use Rattle.flow_shape.specs.Places.{Place, is_wired}
 use Rattle.flow_machine.specs.declared.Debt.{Debt}
 use Rattle.flow_machine.specs.declared.Wish.{Wish}
 use Rattle.flow_machine.specs.declared.Wish.TheVariants as W
-use Rattle.flow_machine.specs.State.{Held, Cast, Part, body_part, reserve_part, NodeState, offer}
-use Rattle.flow_machine.specs.Offers.{candidates, gives_up, offer_end, next_tuple}
+use Rattle.flow_machine.specs.State.{Held, Cast, Part, body_part, reserve_part, NodeState, offer, PlacedNode, split_part}
+use Rattle.flow_machine.specs.Offers.{candidates, gives_up, offer_end, next_tuple, split_msgs}
 use Rattle.flow_machine.specs.Wishes.{first_hold, pay_debt, give_up_held, give_up_wish, is_ready, next_start, start_wish, shut_wish, offer_wish, next_wish, or_nothing, wish_of}
-use Rattle.flow_machine.specs.Enabled.{may_start, may_end, is_numbered, first_is, same_ended, ends_as, debts_of, waits_to_split, wants_over, allows_at}
+use Rattle.flow_machine.specs.Enabled.{may_start, may_end, is_numbered, first_is, same_ended, ends_as, debts_of, waits_to_split, wants_over, allows_at, are_parts}
 use Rattle.flow_node.specs.NodeViews.{first_ready, running_items}
 use Rattle.flow_node.proofs.SameItems.{item-same}
 
@@ -165,3 +167,28 @@ wish-shuts place s i e h = by_due (s.due || is_ready s.part) h
         let here = or-shut (offer_wish place s s.push) _ i e (offers-none place s s.push) later in
         shut-ends (offer s.part) (offer_end place s) (after_shut place s) i e (rest-none place s) here
     by_due false h = cc
+
+-- ---- tuples
+
+ids-same : (ids : List Id) → same_ids ids ids ≡ true
+ids-same [] = refl
+ids-same (i ∷ ids) = both_true (both_true (eq-eqb i.node i.node refl) (eq-eqb i.no i.no refl)) (ids-same ids)
+
+-- the tuple of the node's own event may be formed
+pub event-forms : (v : PlacedNode) (others : ℕ → Option PlacedNode) (worker n number : ℕ) (ids : List Id) → Some (E.Form n number ids) ≡ event_of v others worker W.Form → (eqb number v.state.made && are_parts (next_tuple v.place v.state.part) ids) ≡ true
+event-forms v others worker n number ids h = by_part v.state.part h
+  where
+    by_next : (o : Option (List Item)) → Some (E.Form n number ids) ≡ form_event v.place.node v.state.made o → (eqb number v.state.made && are_parts o ids) ≡ true
+    by_next None h = cc
+    by_next (Some is) h =
+        let no : number ≡ v.state.made = cc in
+        let same : ids ≡ map id_of is = cc in
+        both_true (eq-eqb number v.state.made no) (rw same (ids-same (map id_of is)))
+
+    by_waiting : (o : Option Item) → Some (E.Form n number ids) ≡ option_map (λ (i : Item). E.Split v.place.node i.id.no v.state.made (split_msgs i)) o → ⊥
+    by_waiting None h = cc
+    by_waiting (Some i) h = cc
+
+    by_part : (p : Part) → Some (E.Form n number ids) ≡ tuple_event v p → (eqb number v.state.made && are_parts (next_tuple v.place p) ids) ≡ true
+    by_part (split_part p) h = absurd (by_waiting (first p.waiting) h)
+    by_part p h = by_next (next_tuple v.place p) h

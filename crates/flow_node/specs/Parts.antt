@@ -1,5 +1,5 @@
 -- A node's parts in code, as contracts see them.
-use Rattle.std.specs.Prelude.{◌≡◌, ℕ, Bool, true, false, ◌&&◌, nat_eq, nat_le, Option, None, List, [], ◌++◌, length, map, filter}
+use Rattle.std.specs.Prelude.{◌≡◌, ℕ, Bool, true, false, ◌&&◌, nat_eq, nat_le, Option, List, [], ◌∷◌, ◌++◌, length, map, filter}
 use Rattle.std.specs.List.{list_all}
 use Rattle.flow_item.specs.declared.val.Val.{Val}
 use Rattle.flow_item.specs.declared.item.Item.{Item}
@@ -8,21 +8,46 @@ use Rattle.flow_shape.specs.declared.Kind.{Kind}
 use Rattle.flow_shape.specs.declared.Kind.TheVariants as K
 use Rattle.flow_shape.specs.declared.Wire.{Wire}
 use Rattle.flow_shape.specs.Places.{edge_number}
-use Rattle.flow_machine.specs.State.{Cast, BodyState, Part, store_part, body_part, option_list, cast_give, cast_refuse}
-use Rattle.flow_machine.specs.Offers.{all_in}
+use Rattle.flow_item.specs.declared.event.Land.TheVariants as L
+use Rattle.flow_machine.specs.State.{Cast, StoreState, BodyState, Part, body_part, option_list, cast_give, cast_refuse}
+use Rattle.flow_machine.specs.Offers.{Room, lands, all_in}
 use Rattle.flow_machine.specs.Enabled.{is_numbered}
 use Rattle.flow_machine.specs.After.{with_promotion}
 use Rattle.flow_cast.specs.Casts.{RoomyCast, is_distinct}
+use Rattle.flow_store.specs.Stores.{queue_of, ranks_of}
+use Rattle.flow_node.specs.declared.store.StorePart.{StorePart}
+use Rattle.flow_node.specs.declared.store.StorePart.TheVariants as T
 
--- ---- a queue
+-- ---- a store that gives each item to one edge
 
--- its items, and for how many more there is room
-pub record QueueView : Type 0 where
-  pub items : List Item
-  pub spare : ℕ
+abbrev pub store_kind : StorePart → Kind
+store_kind (T.Queue q) = K.Queue q.capacity
+store_kind (T.Buffer q) = K.Buffer q.capacity
+store_kind (T.Priority r) = K.Priority
+store_kind (T.Sequencer t) = K.Sequencer
 
-abbrev pub queue_part : QueueView → Part
-queue_part q = store_part record { items = q.items; lock = None; next = 0 }
+abbrev pub store_state : StorePart → StoreState
+store_state (T.Queue q) = queue_of q
+store_state (T.Buffer q) = queue_of q
+store_state (T.Priority r) = ranks_of r
+store_state (T.Sequencer t) = t.state
+
+-- for how many more items there is room
+abbrev pub store_spare : StorePart → ℕ
+store_spare (T.Queue q) = q.spare
+store_spare (T.Buffer q) = q.spare
+store_spare (T.Priority r) = r.spare
+store_spare (T.Sequencer t) = t.spare
+
+-- with one more item
+abbrev pub with_item : Item → StoreState → StoreState
+with_item i s = record s { items = s.items ++ i ∷ [] }
+
+-- whether what comes is accepted, and isn't lost
+abbrev pub takes_in : Room → Bool
+takes_in (lands L.Lost) = false
+takes_in (lands land) = true
+takes_in r = false
 
 -- ---- a function
 
@@ -84,6 +109,3 @@ given_over x c = record c { cast = cast_give x c.cast }
 
 abbrev pub refused_over : ℕ → RoomyCast → RoomyCast
 refused_over x c = record c { cast = cast_refuse false x c.cast }
-
-abbrev pub value_of : Item → Val
-value_of i = i.val

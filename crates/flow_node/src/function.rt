@@ -68,7 +68,7 @@ fn is_over(outs: &[Wire], port: u32, edge: u32) -> bool
 }
 
 /// The number of edges out of the port.
-fn count_over(outs: &[Wire], port: u32) -> usize
+pub(crate) fn count_over(outs: &[Wire], port: u32) -> usize
     ensures { result ≡ length (filter (λ w. nat_eq w.out port) outs.now) }
 {
     outs.iter().filter(|wire| wire.out == port).count()
@@ -91,7 +91,7 @@ fn has_met_over(outs: &[Wire], cast: &Cast, port: u32) -> bool
 }
 
 /// Whether the cast may meet the edge: it goes out of its port, and wasn't met.
-fn may_meet(outs: &[Wire], cast: &Cast, edge: u32) -> bool
+pub(crate) fn may_meet(outs: &[Wire], cast: &Cast, edge: u32) -> bool
     ensures { result
         ≡ (has (edges_over outs.now cast.now.cast.port) edge && not (has cast.now.cast.met edge)) }
 {

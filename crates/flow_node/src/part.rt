@@ -1,62 +1,76 @@
-//! What a node has beside what all kinds have: one variant for each kind.
+//! What a node has beside what all kinds have: one variant for each kind, or for kinds that are alike.
 
-ghost use Rattle.std.specs.Prelude.{◌≡◌, ℕ, Bool, List, ◌≤◌, ◌+◌, ◌∷◌, [], true, false, Some, None, if◌then◌else◌, not, length, map, min, slice_get, OnOk, OnErr, IfOk};
+ghost use Rattle.std.specs.Prelude.{◌≡◌, is_some, ℕ, List, ◌<◌, ◌≤◌, ◌+◌, ◌^◌, ◌∷◌, [], true, false, if◌then◌else◌, not, length, map, slice_get, OnOk, IfOk};
 ghost use Rattle.std.specs.List.{list_any, list_all, find};
-ghost use Rattle.std.specs.Option.{option_copied};
+ghost use Rattle.std.specs.Option.{option_copied, option_map};
 ghost use Rattle.flow_item.specs.Lists.{first, is_empty};
 ghost use Rattle.flow_item.specs.Values.{same_item};
 ghost use Rattle.flow_shape.specs.Kinds.{is_discarding};
-ghost use Rattle.flow_shape.specs.Rules.{has_good_limit};
 ghost use Rattle.flow_machine.specs.State.{casts_of, start_part, offer};
-ghost use Rattle.flow_machine.specs.Offers.{candidates, room, lands, offer_end};
+ghost use Rattle.flow_machine.specs.Offers.{next_tuple, candidates, room, offer_end};
 ghost use Rattle.flow_machine.specs.Enabled.{is_numbered};
-ghost use Rattle.flow_machine.specs.After.{part_after_arrival, part_after_give, part_after_refuse, part_after_start, part_after_end, part_after_shut, part_after_cancel};
+ghost use Rattle.flow_machine.specs.WishEvents.{id_of};
+ghost use Rattle.flow_machine.specs.After.{part_after_arrival, part_after_give, part_after_refuse, part_after_form, part_after_start, part_after_end, part_after_shut, part_after_cancel};
 ghost use Rattle.flow_machine.specs.OpenParts.{open_bodies, open_holds};
 ghost use Rattle.flow_machine.specs.PrintOrder.{items_in_order};
 ghost use Rattle.flow_machine.specs.Wishes.{offer_wish, shut_wish, start_wish, is_ready};
-ghost use Rattle.flow_node.specs.Built.{is_built};
-ghost use Rattle.flow_node.specs.Readied.{keeps_given, runs_bodies};
-ghost use Rattle.flow_node.specs.Parts.{cast_in};
-ghost use Rattle.flow_node.specs.Kept.{kind_of, part_of, spare_of, coming_of, is_whole, place_of, state_of, Steps};
-ghost use Rattle.flow_node.specs.NodeViews.{present_items, ticket_items, running_items, first_ready, room_seen, is_by_caller};
+ghost use Rattle.flow_node.specs.Built.{is_built, is_within_limits};
+ghost use Rattle.flow_node.specs.Readied.{suits, runs_bodies};
+ghost use Rattle.flow_node.specs.Parts.{cast_in, takes_in};
+ghost use Rattle.flow_node.specs.Kept.{kind_of, part_of, spare_of, ready_for_of, can_form, coming_of, is_whole, is_counted, place_of, state_of, Steps};
+ghost use Rattle.flow_node.specs.NodeViews.{present_items, ticket_items, running_items, first_ready, room_seen};
 ghost use Rattle.flow_shape.specs.declared.Wire.{Wire};
 ghost use Rattle.flow_item.specs.declared.item.Msg.{Msg};
-ghost use Rattle.flow_node.specs.declared.base.Base.{Base};
+ghost use Rattle.flow_store.specs.Stores.{is_by_caller, tag_after};
 
+use crate::bar::Bar;
 use crate::base::Base;
 use crate::function::FunctionPart;
-use crate::queue::QueuePart;
-use crate::way::{Bar, Way};
-use flow_item::{Ended, Item, Land, NoMemory, Outs, Val};
+use crate::join::JoinPart;
+use crate::store::StorePart;
+use flow_item::{Ended, Ids, Item, Land, NoMemory, Outs};
 use flow_machine::Wish;
 use flow_shape::Kind;
+use flow_store::{BagStore, FifoStore, RankStore, SeqStore, Way};
 use std::alloc::Global;
 
 /// What a node has beside what all kinds have.
 #[derive(Drop)]
 pub(crate) enum Part {
-    Queue(QueuePart),
+    /// A queue, buffer, priority node or sequencer.
+    Store(StorePart),
     Function(FunctionPart),
+    /// A queueing or key-matching join.
+    Join(JoinPart),
 }
 
 impl Part {
     /// The part of a node of this kind at its start.
     pub(crate) fn new(alloc: Global, kind: &Kind) -> Result<Part, NoMemory>
         requires built { is_built kind.now ≡ true }
-        requires limited { has_good_limit kind.now ≡ true }
+        requires limited { is_within_limits kind.now ≡ true }
         ensures kind { IfOk result (λ p. kind_of p ≡ kind.now) }
         ensures part { IfOk result (λ p. part_of p ≡ start_part kind.now) }
         ensures casts { IfOk result (λ p. coming_of p ≡ []) }
         ensures whole { IfOk result (λ p. (outs : List Wire) → is_whole outs p ≡ true) }
     {
         match kind {
-            Kind::Queue { .. } => Ok(Part::Queue(QueuePart::new(alloc))),
+            Kind::Queue { capacity } => Ok(Part::Store(StorePart::Queue(FifoStore::new(
+                alloc, *capacity,
+            )))),
+            Kind::Buffer { capacity } => Ok(Part::Store(StorePart::Buffer(BagStore::new(
+                alloc, *capacity,
+            )))),
+            Kind::Priority => Ok(Part::Store(StorePart::Priority(RankStore::new(alloc)))),
+            Kind::Sequencer => Ok(Part::Store(StorePart::Sequencer(SeqStore::new(alloc)))),
             Kind::Function {
                 limit,
                 body,
                 arg,
                 ..
             } => Ok(Part::Function(FunctionPart::new(alloc, *limit, *body, arg.copy(alloc)?))),
+            Kind::QueueJoin { ports } => Ok(Part::Join(JoinPart::queueing(alloc, *ports)?)),
+            Kind::KeyJoin { ports } => Ok(Part::Join(JoinPart::matching(alloc, *ports)?)),
             _ => unreachable!(),
         }
     }
@@ -67,8 +81,9 @@ impl Part {
             ≡ first (candidates (place_of base.now self.now) (state_of base.now self.now) edge) }
     {
         match self {
-            Part::Queue(queue) => queue.front(),
+            Part::Store(store) => store.front(),
             Part::Function(function) => function.candidate(base, edge),
+            Part::Join(join) => join.candidate(base, edge),
         }
     }
 
@@ -78,8 +93,9 @@ impl Part {
             ≡ find (is_numbered no) (candidates (place_of base.now self.now) (state_of base.now self.now) edge) }
     {
         match self {
-            Part::Queue(queue) => queue.offered(no),
+            Part::Store(store) => store.offered(no),
             Part::Function(function) => function.offered(base, edge, no),
+            Part::Join(join) => join.offered(base, edge, no),
         }
     }
 
@@ -88,8 +104,9 @@ impl Part {
         ensures { option_copied result ≡ find (is_numbered no) (present_items (part_of self.now)) }
     {
         match self {
-            Part::Queue(queue) => queue.item(no),
+            Part::Store(store) => store.item(no),
             Part::Function(function) => function.item(no),
+            Part::Join(join) => join.item(no),
         }
     }
 
@@ -98,8 +115,9 @@ impl Part {
         ensures { option_copied result ≡ first_ready (part_of self.now) }
     {
         match self {
-            Part::Queue(_) => None,
+            Part::Store(_) => None,
             Part::Function(function) => function.first_ready(),
+            Part::Join(_) => None,
         }
     }
 
@@ -108,8 +126,9 @@ impl Part {
         ensures { option_copied result ≡ find (is_numbered no) (running_items (part_of self.now)) }
     {
         match self {
-            Part::Queue(_) => None,
+            Part::Store(_) => None,
             Part::Function(function) => function.running(no),
+            Part::Join(_) => None,
         }
     }
 
@@ -118,8 +137,9 @@ impl Part {
         ensures { option_copied result ≡ slice_get (ticket_items (part_of self.now)) k }
     {
         match self {
-            Part::Queue(_) => None,
+            Part::Store(_) => None,
             Part::Function(function) => function.ticket(k),
+            Part::Join(_) => None,
         }
     }
 
@@ -129,30 +149,14 @@ impl Part {
             ≡ room (place_of base.now self.now) (state_of base.now self.now) port tag (is_by_caller way) }
     {
         let _ = base;
-        let _ = (port, tag, way);
+        let _ = port;
         match self {
-            Part::Queue(_) => Ok(Land::Kept),
+            Part::Store(store) => match store.room(tag, way) {
+                Ok(land) => Ok(land),
+                Err(cause) => Err(Bar::Cause(cause)),
+            },
             Part::Function(function) => Ok(function.land()),
-        }
-    }
-
-    /// How an item that an edge brings lands.
-    pub(crate) fn land(&self) -> Land
-        ensures { (base : Base) → (port tag : ℕ) → (by_caller : Bool) → room (place_of base self.now) (state_of base self.now) port tag by_caller ≡ lands result }
-    {
-        match self {
-            Part::Queue(_) => Land::Kept,
-            Part::Function(function) => function.land(),
-        }
-    }
-
-    /// Whether an item that the node gives stays there.
-    pub(crate) fn keeps_given(&self) -> bool
-        ensures { result ≡ keeps_given (part_of self.now) }
-    {
-        match self {
-            Part::Queue(_) => false,
-            Part::Function(_) => true,
+            Part::Join(_) => Ok(Land::Kept),
         }
     }
 
@@ -161,8 +165,9 @@ impl Part {
         ensures { result ≡ length (coming_of self.now) }
     {
         match self {
-            Part::Queue(_) => 0,
+            Part::Store(_) => 0,
             Part::Function(function) => function.coming(),
+            Part::Join(_) => 0,
         }
     }
 
@@ -173,8 +178,9 @@ impl Part {
     {
         let _ = base;
         match self {
-            Part::Queue(_) => 0,
+            Part::Store(store) => store.open_holds(),
             Part::Function(function) => function.open_bodies(),
+            Part::Join(_) => 0,
         }
     }
 
@@ -183,8 +189,9 @@ impl Part {
         ensures { result ≡ is_ready (part_of self.now) }
     {
         match self {
-            Part::Queue(_) => false,
+            Part::Store(_) => false,
             Part::Function(function) => function.is_ready(),
+            Part::Join(_) => false,
         }
     }
 
@@ -194,8 +201,9 @@ impl Part {
             ≡ offer_wish (place_of base.now self.now) (state_of base.now self.now) base.now.push.items }
     {
         match self {
-            Part::Queue(queue) => queue.offer_wish(base),
+            Part::Store(store) => store.offer_wish(base),
             Part::Function(function) => function.offer_wish(base),
+            Part::Join(join) => join.offer_wish(base),
         }
     }
 
@@ -205,8 +213,35 @@ impl Part {
             ≡ shut_wish (offer (part_of self.now)) (offer_end (place_of base.now self.now) (state_of base.now self.now)) }
     {
         match self {
-            Part::Queue(_) => None,
+            Part::Store(_) => None,
             Part::Function(function) => function.shut_wish(base),
+            Part::Join(join) => join.shut_wish(base),
+        }
+    }
+
+    /// Whether a tuple can be formed.
+    pub(crate) fn forms(&self, base: &Base) -> bool
+        ensures { result ≡ is_some (next_tuple (place_of base.now self.now) (part_of self.now)) }
+    {
+        let _ = base;
+        match self {
+            Part::Store(_) => false,
+            Part::Function(_) => false,
+            Part::Join(join) => join.forms(),
+        }
+    }
+
+    /// The ids of the parts of the tuple that can be formed, in port order.
+    pub(crate) fn parts(&self, base: &Base) -> Result<Option<Ids>, NoMemory>
+        ensures { IfOk
+            result
+            (λ ids. ids ≡ option_map (map id_of) (next_tuple (place_of base.now self.now) (part_of self.now))) }
+    {
+        let _ = base;
+        match self {
+            Part::Store(_) => Ok(None),
+            Part::Function(_) => Ok(None),
+            Part::Join(join) => join.parts(),
         }
     }
 
@@ -215,8 +250,9 @@ impl Part {
         ensures { result ≡ start_wish (part_of self.now) }
     {
         match self {
-            Part::Queue(_) => None,
+            Part::Store(_) => None,
             Part::Function(function) => function.start_wish(),
+            Part::Join(_) => None,
         }
     }
 
@@ -225,8 +261,9 @@ impl Part {
         ensures { result ≡ length (items_in_order (kind_of self.now) (part_of self.now)) }
     {
         match self {
-            Part::Queue(queue) => queue.len(),
+            Part::Store(store) => store.len(),
             Part::Function(_) => 0,
+            Part::Join(_) => 0,
         }
     }
 
@@ -236,21 +273,37 @@ impl Part {
             ≡ slice_get (items_in_order (kind_of self.now) (part_of self.now)) k }
     {
         match self {
-            Part::Queue(queue) => queue.at(k),
+            Part::Store(store) => store.at(k),
             Part::Function(_) => None,
+            Part::Join(_) => None,
         }
     }
 }
 
 impl Part {
-    /// Makes room for one more item.
-    pub(crate) fn reserve(&mut self) -> Result<(), NoMemory>
+    /// Makes room for one more item, with this tag and at this port.
+    pub(crate) fn reserve(&mut self, port: u32, tag: u64) -> Result<(), NoMemory>
         ensures same { (outs : List Wire) → Steps outs self.old self.new (part_of self.old) (coming_of self.old) }
         ensures ok { OnOk result (1 ≤ spare_of self.new) }
+        ensures suits { OnOk result (suits (ready_for_of self.new) port tag ≡ true) }
+    {
+        let _ = port;
+        let _ = tag;
+        match self {
+            Part::Store(store) => store.reserve(),
+            Part::Function(function) => function.reserve(),
+            Part::Join(join) => join.reserve(port, tag),
+        }
+    }
+
+    /// Brings the items in print order where `at` finds them sooner.
+    pub(crate) fn arrange(&mut self) -> Result<(), NoMemory>
+        ensures { (outs : List Wire) → Steps outs self.old self.new (part_of self.old) (coming_of self.old) }
     {
         match self {
-            Part::Queue(queue) => queue.reserve(),
-            Part::Function(function) => function.reserve(),
+            Part::Store(store) => store.arrange(),
+            Part::Function(_) => Ok(()),
+            Part::Join(_) => Ok(()),
         }
     }
 
@@ -259,8 +312,9 @@ impl Part {
         ensures { (outs : List Wire) → Steps outs self.old self.new (part_of self.old) [] }
     {
         match self {
-            Part::Queue(_) => {}
+            Part::Store(_) => {}
             Part::Function(function) => function.clear(),
+            Part::Join(_) => {}
         }
     }
 
@@ -274,38 +328,53 @@ impl Part {
             (map cast_in (coming_of self.new) ≡ (if runs_bodies (part_of self.old) then casts_of base.now.node number outs.now else [])) }
     {
         match self {
-            Part::Queue(_) => Ok(()),
+            Part::Store(_) => Ok(()),
             Part::Function(function) => function.expect(base, number, outs),
+            Part::Join(_) => Ok(()),
         }
     }
 
-    /// An item comes to a port.
-    pub(crate) fn arrive(&mut self, base: &Base, port: u32, item: Item)
-        requires { 1 ≤ spare_of self.old }
+    /// Makes what the next tuple is made in, where the kind forms tuples.
+    pub(crate) fn expect_tuple(&mut self, base: &Base) -> Result<(), NoMemory>
+        ensures same { Steps base.now.outs.items self.old self.new (part_of self.old) (coming_of self.old) }
+        ensures ok { OnOk result (can_form self.new ≡ true) }
+    {
+        match self {
+            Part::Store(_) => Ok(()),
+            Part::Function(_) => Ok(()),
+            Part::Join(join) => join.expect_tuple(base),
+        }
+    }
+
+    /// An item comes to a port, and isn't lost: it has the node's next number.
+    pub(crate) fn arrive(&mut self, base: &Base, port: u32, item: Item, way: Way)
+        requires spare { 1 ≤ spare_of self.old }
+        requires suits { suits (ready_for_of self.old) port item.tag ≡ true }
+        requires counted { is_counted base.now.made (part_of self.old) ≡ true }
+        requires number { item.id.no ≡ base.now.made }
+        requires taken { takes_in (room (place_of base.now self.old) (state_of base.now self.old) port item.tag (is_by_caller way)) ≡ true }
         ensures { Steps base.now.outs.items self.old self.new (part_after_arrival (place_of base.now self.old) base.now.push.items (part_of self.old) port item) (coming_of self.old) }
     {
         let _ = base;
         let _ = port;
         match self {
-            Part::Queue(queue) => queue.arrive(item),
+            Part::Store(store) => store.arrive(item, way),
             Part::Function(function) => function.arrive(item),
+            Part::Join(join) => join.arrive(port, item),
         }
     }
 
-    /// The item goes over an out edge: its value, where it leaves the node.
-    pub(crate) fn give(&mut self, base: &Base, edge: u32, item: &Item) -> Option<Val>
+    /// The item goes over an out edge.
+    pub(crate) fn give(&mut self, base: &Base, edge: u32, item: &Item)
         requires whole { is_whole base.now.outs.items self.old ≡ true }
+        requires fits { tag_after (kind_of self.old) (part_of self.old) < 2 ^ 64 }
         requires allowed { list_any (same_item item.now) (candidates (place_of base.now self.old) (state_of base.now self.old) edge) ≡ true }
-        ensures part { Steps base.now.outs.items self.old self.new (part_after_give (kind_of self.old) (part_of self.old) edge item.now.id.no) (coming_of self.old) }
-        ensures value { result ≡ (if keeps_given (part_of self.old) then None else Some item.now.val) }
+        ensures { Steps base.now.outs.items self.old self.new (part_after_give (kind_of self.old) (part_of self.old) edge item.now.id.no) (coming_of self.old) }
     {
-        let _ = item;
         match self {
-            Part::Queue(queue) => queue.depart(),
-            Part::Function(function) => {
-                function.give(base, edge);
-                None
-            }
+            Part::Store(store) => store.give(edge, item.id.no),
+            Part::Function(function) => function.give(base, edge),
+            Part::Join(join) => join.give(base, edge),
         }
     }
 
@@ -316,8 +385,9 @@ impl Part {
         ensures { Steps base.now.outs.items self.old self.new (part_after_refuse (not (is_discarding (kind_of self.old))) (part_of self.old) edge) (coming_of self.old) }
     {
         match self {
-            Part::Queue(_) => {}
+            Part::Store(_) => {}
             Part::Function(function) => function.refuse(base, edge),
+            Part::Join(_) => {}
         }
     }
 
@@ -326,8 +396,9 @@ impl Part {
         ensures { result ≡ not (is_discarding (kind_of self.now)) }
     {
         match self {
-            Part::Queue(_) => true,
+            Part::Store(_) => true,
             Part::Function(_) => false,
+            Part::Join(_) => true,
         }
     }
 
@@ -336,8 +407,9 @@ impl Part {
         ensures { (outs : List Wire) → Steps outs self.old self.new (part_after_start (part_of self.old)) (coming_of self.old) }
     {
         match self {
-            Part::Queue(_) => {}
+            Part::Store(_) => {}
             Part::Function(function) => function.start(),
+            Part::Join(_) => {}
         }
     }
 
@@ -350,8 +422,22 @@ impl Part {
     {
         let _ = base;
         match self {
-            Part::Queue(_) => unreachable!(),
+            Part::Store(_) => unreachable!(),
             Part::Function(function) => function.end(no),
+            Part::Join(_) => unreachable!(),
+        }
+    }
+
+    /// A tuple is formed with this number, and is on offer.
+    pub(crate) fn form(&mut self, base: &Base, no: u64)
+        requires some { is_some (next_tuple (place_of base.now self.old) (part_of self.old)) ≡ true }
+        requires room { can_form self.old ≡ true }
+        ensures { Steps base.now.outs.items self.old self.new (part_after_form (place_of base.now self.old) no (part_of self.old) (next_tuple (place_of base.now self.old) (part_of self.old))) (coming_of self.old) }
+    {
+        match self {
+            Part::Store(_) => unreachable!(),
+            Part::Function(_) => unreachable!(),
+            Part::Join(join) => join.form(base, no),
         }
     }
 
@@ -361,8 +447,9 @@ impl Part {
     {
         let _ = ended;
         match self {
-            Part::Queue(_) => {}
+            Part::Store(_) => {}
             Part::Function(function) => function.shut(),
+            Part::Join(join) => join.shut(),
         }
     }
 
@@ -371,8 +458,9 @@ impl Part {
         ensures { (outs : List Wire) → Steps outs self.old self.new (part_after_cancel (part_of self.old)) (coming_of self.old) }
     {
         match self {
-            Part::Queue(_) => {}
+            Part::Store(_) => {}
             Part::Function(function) => function.cancel(),
+            Part::Join(_) => {}
         }
     }
 }

@@ -1,8 +1,7 @@
 ghost use Rattle.std.specs.Prelude.{◌≡◌, true, false, [], ◌∷◌, not, nat_eq, IfOk};
 ghost use Rattle.flow_shape.specs.Kinds.{is_for_callers, is_async};
-ghost use Rattle.flow_shape.specs.Rules.{has_good_limit};
 ghost use Rattle.flow_shape.specs.Places.{Place, place_at, is_wired};
-ghost use Rattle.flow_node.specs.Built.{is_built};
+ghost use Rattle.flow_node.specs.Built.{is_built, is_within_limits};
 ghost use Rattle.flow_shape.specs.declared.Shape.{Shape};
 
 use super::*;
@@ -58,7 +57,7 @@ fn fork(alloc: Global, kind: Kind) -> Result<Shape, NoMemory>
 /// Node 0 of a shape with two edges out of it, at its start.
 fn first_node(alloc: Global, kind: Kind) -> Result<NodeState, NoMemory>
     requires built { is_built kind ≡ true }
-    requires limited { has_good_limit kind ≡ true }
+    requires limited { is_within_limits kind ≡ true }
     ensures number { IfOk result (λ v. v.node.place.node ≡ 0) }
     ensures kind { IfOk result (λ v. v.node.place.kind ≡ kind) }
     ensures first { IfOk result (λ v. is_wired v.node.place record { edge = 0; from = 0; to = 1; port = 0 } ≡ true) }
@@ -259,5 +258,68 @@ fn a_function_runs_its_bodies(rt: HostRuntime) -> Result<(), Fail> {
     assert_eq!(rt; start(&mut node)?, Some(1));
     assert!(rt; end(&mut node, 1, Outs::new(alloc))?);
     assert!(rt; idle(&mut node)? && node.open_parts() == 0 && node.item(1).is_none());
+    Ok(())
+}
+
+/// Four items come to node 0.
+fn fill_store(node: &mut NodeState) -> Result<(), NoMemory>
+    requires number { node.old.node.place.node ≡ 0 }
+    requires callers { is_for_callers node.old.node.place.kind 0 ≡ true }
+    ensures { node.new.node.place ≡ node.old.node.place }
+{
+    put(node, 1, 5)?;
+    put(node, 3, 9)?;
+    put(node, 0, 7)?;
+    put(node, 1, 8)
+}
+
+/// The values that go over edge 0 of node 0 in three gives.
+fn drain_store(
+    alloc: Global,
+    node: &mut NodeState,
+) -> Result<(Option<i64>, Option<i64>, Option<i64>), NoMemory>
+    requires number { node.old.node.place.node ≡ 0 }
+    requires first { is_wired node.old.node.place record { edge = 0; from = 0; to = 1; port = 0 } ≡ true }
+{
+    let first = number(give(alloc, node, link(0, 1))?);
+    let second = number(give(alloc, node, link(0, 1))?);
+    let third = number(give(alloc, node, link(0, 1))?);
+    Ok((first, second, third))
+}
+
+/// The values that go over edge 0 of a node after four puts, in three gives, and how many items are left.
+fn passed(
+    alloc: Global,
+    kind: Kind,
+) -> Result<((Option<i64>, Option<i64>, Option<i64>), usize), NoMemory>
+    requires built { is_built kind ≡ true }
+    requires limited { is_within_limits kind ≡ true }
+    requires callers { is_for_callers kind 0 ≡ true }
+{
+    let mut node = first_node(alloc, kind)?;
+    fill_store(&mut node)?;
+    let gone = drain_store(alloc, &mut node)?;
+    Ok((gone, node.item_count()))
+}
+
+#[test]
+fn stores_pass_their_items_on(rt: HostRuntime) -> Result<(), Fail> {
+    let alloc = rt.alloc();
+    assert_eq!(rt;
+        passed(alloc, Kind::Queue { capacity: None })?,
+        ((Some(5), Some(9), Some(7)), 1)
+    );
+    assert_eq!(rt;
+        passed(alloc, Kind::Buffer { capacity: None })?,
+        ((Some(5), Some(9), Some(7)), 1)
+    );
+    assert_eq!(rt;
+        passed(alloc, Kind::Priority)?,
+        ((Some(9), Some(8), Some(7)), 1)
+    );
+    assert_eq!(rt;
+        passed(alloc, Kind::Sequencer)?,
+        ((Some(7), Some(5), None), 1)
+    );
     Ok(())
 }

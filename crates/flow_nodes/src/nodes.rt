@@ -78,6 +78,24 @@ impl Nodes {
         }
     }
 
+    /// Brings the items of each node in print order where `NodeState::at` finds them sooner. Takes the time of sorting the items of sequencers.
+    pub fn arrange(&mut self) -> Result<(), NoMemory>
+        ensures { map node_of self.new ≡ map node_of self.old }
+    {
+        for at in 0..self.nodes.len() {
+            self.arrange_at(at)?;
+        }
+        Ok(())
+    }
+
+    fn arrange_at(&mut self, at: usize) -> Result<(), NoMemory>
+        requires { at < length self.old }
+        ensures { ChangesAt self.old self.new at same_node }
+    {
+        let node = &mut self.nodes[at];
+        node.arrange()
+    }
+
     /// Prepares the event at a node.
     fn prepare(&mut self, at: usize, e: &Event) -> Result<(), NoMemory>
         requires { at < length self.old }

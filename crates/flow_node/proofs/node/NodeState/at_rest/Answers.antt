@@ -1,15 +1,15 @@
-use Rattle.std.proofs.Common.{ap, ◌∙◌}
+use Rattle.std.proofs.Common.{sym, ap, ◌∙◌}
 use Rattle.flow_machine.specs.Enabled.{at_rest}
-use Rattle.flow_node.specs.Readied.{Readied}
+use Rattle.flow_node.specs.Readied.{Readied, is_quiet}
 use Rattle.flow_node.proofs.NodeLemmas.{rest-then, rest-else}
 use Rattle.flow_node.proofs.node.NodeState.at_rest.Goals as goal
 
-pub returns-then-is_none : goal.returns-then-is_none
-returns-then-is_none c =
-    rest-then c.self.inside.base c.self.inside.part c.offer_wish.result c.is_none.result c.offer_wish.ensures c.is_none.ensures c.shut_wish.result c.is_none-then-is_none.result c.if-is_none.true c.shut_wish.ensures c.is_none-then-is_none.ensures
+pub returns-then-is_quiet : goal.returns-then-is_quiet
+returns-then-is_quiet c =
+    rest-then c.self.inside.base c.self.inside.part c.is_quiet.result (c.is_quiet.ensures ∙ sym (ap (λ (v : Readied). is_quiet v.node.place v.node.state) c.self.view_is)) c.forms.result c.if-is_quiet.true c.forms.ensures
     ∙ ap (λ (v : Readied). at_rest v.node.place v.node.state) c.self.view_is
 
-pub returns-else-is_none : goal.returns-else-is_none
-returns-else-is_none c =
-    rest-else c.self.inside.base c.self.inside.part c.offer_wish.result c.is_none.result c.offer_wish.ensures c.is_none.ensures c.if-is_none.false
+pub returns-else-is_quiet : goal.returns-else-is_quiet
+returns-else-is_quiet c =
+    rest-else c.self.inside.base c.self.inside.part c.is_quiet.result (c.is_quiet.ensures ∙ sym (ap (λ (v : Readied). is_quiet v.node.place v.node.state) c.self.view_is)) c.if-is_quiet.false
     ∙ ap (λ (v : Readied). at_rest v.node.place v.node.state) c.self.view_is

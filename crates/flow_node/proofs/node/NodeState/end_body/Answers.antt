@@ -3,7 +3,9 @@ use Rattle.flow_machine.specs.State.{casts_of}
 use Rattle.flow_machine.specs.Enabled.{may_end}
 use Rattle.flow_node.specs.Readied.{Readied, runs_bodies}
 use Rattle.flow_node.specs.Parts.{cast_in}
-use Rattle.flow_node.specs.Kept.{kind_of, part_of, coming_of}
+use Rattle.flow_machine.specs.After.{part_after_end}
+use Rattle.flow_node.specs.Kept.{kind_of, part_of, coming_of, is_counted, place_of}
+use Rattle.flow_node.proofs.StoreLemmas.{counted-more, counted-ended}
 use Rattle.flow_node.proofs.NodeLemmas.{kept-step, ended-after, ends-running, running-runs}
 use Rattle.flow_node.proofs.node.NodeState.end_body.Goals as goal
 
@@ -16,8 +18,17 @@ end-requires c =
 pub invariant_of-self : goal.invariant_of-self
 invariant_of-self c =
     let b = c.self.inside.base in
-    let fits : b.made + c.coming-count.result + 0 ≤ 18446744073709551615 = omega (arith, c.self.invariant.numbers, c.coming-count.ensures) in
-    kept-step b record b { made = b.made + c.coming-count.result; due = true } c.self.inside.part c.end.new.self c.self.invariant c.end.ensures.same refl fits
+    let p = c.self.inside.part in
+    let may : may_end (kind_of p) (part_of p) c.args.no c.args.outs.now ≡ true = rw (← c.self.view_is) at c.requires.may in
+    let runs : runs_bodies (part_of p) ≡ true = running-runs (part_of p) c.args.no (ends-running p c.args.no c.args.outs.now may) in
+    let casts : map cast_in (coming_of p) ≡ (if runs_bodies (part_of p) then casts_of b.node c.args.number c.args.outs.now else []) = rw (← c.self.view_is) at c.requires.casts in
+    let mine : map cast_in (coming_of p) ≡ casts_of b.node c.args.number c.args.outs.now = rw runs at casts in
+    let made = b.made + c.coming-count.result in
+    let fits : made + 0 ≤ 18446744073709551615 = omega (arith, c.self.invariant.numbers, c.coming-count.ensures) in
+    let after = part_after_end (place_of b p) (part_of p) c.args.no c.args.number c.args.outs.now in
+    let counted : is_counted made after ≡ true = counted-ended made (place_of b p) (part_of p) c.args.no c.args.number c.args.outs.now (counted-more (part_of p) b.made made (omega arith) c.self.invariant.counted) in
+    let is : part_of c.end.new.self ≡ after = c.end.ensures.part c.args.number c.args.outs.now mine in
+    kept-step b record b { made = made; due = true } p c.end.new.self c.self.invariant c.end.ensures.same refl (rw is counted) fits
 
 pub returns : goal.returns
 returns c =

@@ -1,15 +1,6 @@
-//! How items come to a node.
+//! What bars items from a node.
 
 use flow_item::Cause;
-
-/// Who brings an item to a node.
-#[derive(Clone, Copy, Debug)]
-pub enum Way {
-    /// A caller puts it.
-    Caller,
-    /// It comes over an edge.
-    Edge,
-}
 
 /// Why an item can't come to a port.
 #[derive(Clone, Copy, Debug)]
