@@ -155,6 +155,34 @@ impl<B: Naming> Book<B> {
         ensures job { IfErr result (λ u. u.job ≡ job) }
         ensures outs { IfErr result (λ u. u.outs ≡ outs_back w.old.kept u.stop outs) }
     {
+        match self.try_finish(alloc, rt, w, job, outs, gate) {
+            Ok(()) => Ok(()),
+            Err(unfinished) => {
+                self.store(rt, w, unfinished.stop);
+                Err(unfinished)
+            }
+        }
+    }
+
+    // Ends a job. A refusal is not yet stored.
+    fn try_finish<R: Wait, G: Gate>(
+        &self,
+        alloc: Global,
+        rt: &R,
+        w: &mut Chair<GraphMachine, B>,
+        job: Job,
+        outs: Outs,
+        gate: &G,
+    ) -> Result<(), Unfinished>
+        requires of { w.old.about ≡ about_of self.now.run self.now.items self.now.events }
+        requires worker { is_worker_about w.old.about w.old.party ≡ true }
+        requires runs { RunsJob self.now.run w.old job }
+        requires outs { is_submit job.body ≡ true → outs ≡ [] }
+        ensures ended { OnOk result (IsEnded self.now.run.shape w.old job outs w.new) }
+        ensures stopped { IfErr result (λ u. IsHalted w.old (Ends self.now.run.shape w.old.party job outs) w.new u.stop) }
+        ensures job { IfErr result (λ u. u.job ≡ job) }
+        ensures outs { IfErr result (λ u. u.outs ≡ outs_back w.old.kept u.stop outs) }
+    {
         if is_input(&self.run.shape, job.node) && outs.len() > 1 {
             self.finish_first(alloc, rt, w, job, outs, gate)
         } else {
@@ -278,7 +306,10 @@ impl<B: Naming> Book<B> {
         }
         match self.back_at(alloc, rt, w, ask, outs, gate) {
             Ok(took) => Ok(took),
-            Err(refused) => Err(refused),
+            Err(refused) => {
+                self.store(rt, w, refused.1);
+                Err(refused)
+            }
         }
     }
 

@@ -3,7 +3,7 @@ use Rattle.flow_item.specs.declared.event.Event.TheVariants as E
 use Rattle.flow_book.specs.Answers.{Was}
 use Rattle.flow_book.specs.Callers.{number_of}
 use Rattle.flow_book.proofs.Stops.{halted-after}
-use Rattle.flow_book.proofs.book.Book.activate.Goals as goal
+use Rattle.flow_book.proofs.book.Book.try_activate.Goals as goal
 
 pub returns-clause-stopped : goal.returns-clause-stopped
 returns-clause-stopped g c =

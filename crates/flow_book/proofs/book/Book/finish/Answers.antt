@@ -1,0 +1,5 @@
+use Rattle.flow_book.proofs.Stored.{halted-shows}
+use Rattle.flow_book.proofs.book.Book.finish.Goals as goal
+
+pub store-requires : goal.store-requires
+store-requires g c = halted-shows _ _ _ _ c.in-Err.ensures.stopped
