@@ -1,0 +1,7 @@
+mod Numbers
+mod Places
+mod SummaryLemmas
+mod Sums
+mod Texts
+pub mod Fitting
+pub mod Shelves
