@@ -1,0 +1,14 @@
+pub mod Tags
+pub mod Rising
+pub mod Graph
+pub mod Steady
+pub mod Tidied
+pub mod Sorted
+pub mod Reached
+pub mod Judged
+pub mod Visited
+pub mod Ordered
+pub mod Values
+pub mod Leaving
+pub mod Bodies
+pub mod Least
