@@ -4,13 +4,13 @@ ghost use Rattle.flow_io.specs.Streams.{Rose};
 ghost use Rattle.flow_cli.specs.Steps.{Reads};
 
 use flow_body::Shelf;
-use flow_doc::{BODIES, Doc, DocFault, Offered};
+use flow_doc::{STORES, Doc, DocFault, Offered};
 use flow_io::{ReadFault, Source, read_all};
 use flow_read::read_doc;
 use std::alloc::Global;
 
 /// The words that documents may use so far: those of the kinds that there is code for.
-pub const OFFERED: Offered = BODIES;
+pub const OFFERED: Offered = STORES;
 
 /// Why a source gives no document.
 #[derive(Debug, Drop)]
