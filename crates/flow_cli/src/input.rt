@@ -4,7 +4,7 @@ ghost use Rattle.flow_io.specs.Streams.{Rose};
 ghost use Rattle.flow_cli.specs.Steps.{Reads};
 
 use flow_body::Shelf;
-use flow_doc::{STORES, Doc, DocFault, Offered};
+use flow_doc::{Doc, DocFault, Offered, STORES};
 use flow_io::{ReadFault, Source, read_all};
 use flow_read::read_doc;
 use std::alloc::Global;
