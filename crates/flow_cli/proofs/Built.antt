@@ -289,7 +289,6 @@ function_listed f s q shelf path d =
     function_is_listed f s reject limit body arg r q)))))
 
 bare_listed : (f s : Bool) (k : Kind) → is_listed f s k ≡ true → (path : Path) (d : Data) → Sound (is_listed f s) (with_no_more path d [] k)
-unfolding with_no_more
 bare_listed f s k q path d = after always _ _ _ (any_only path (codes "name" ∷ codes "kind" ∷ []) d) (λ o u. q)
 
 kind_listed : (f s : Bool) (shelf : List (List ℕ)) (v : ℕ) → nat_le v 1 ≡ true → (path : Path) (d : Data) (word : NodeWord) → is_listed_word f s word ≡ true → Sound (is_listed f s) (kind_at (offers f s) v shelf word path d)

@@ -133,8 +133,8 @@ module _ (shelf : List (List ℕ)) (meanings : Meanings) (asked : Option Generat
   kept_of (Some g) = kept_by g.text g.count
 
   -- words that are no line
-  pub answers_no_line : asked ≡ None → IsSaid words_text S.Words status old new → IsGenAnswer shelf meanings asked kept status old new
-  answers_no_line bad said = record {
+  pub answers_no_line : asked ≡ None → (text : List ℕ) → text ≡ words_text → IsSaid text S.Words status old new → IsGenAnswer shelf meanings asked kept status old new
+  answers_no_line bad text same told = let said : IsSaid words_text S.Words status old new = subst (λ (t : List ℕ). IsSaid t S.Words status old new) same told in record {
     kept = kept_of asked;
     printed = record { ending = bad_words; is = bad; written = says_words status old new said };
     done = λ h e f d. absurd (unlike asked h bad e);
