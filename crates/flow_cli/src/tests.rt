@@ -1,14 +1,16 @@
-ghost use Rattle.std.specs.Prelude.{◌≡◌, IfOk, None, [], ◌∷◌};
+ghost use Rattle.std.specs.Prelude.{◌≡◌, IfOk, None, true, map, [], ◌∷◌};
+ghost use Rattle.flow_gen.specs.Generated.{has_bodies};
 ghost use Rattle.flow_print.specs.Report.{MayBePrinted};
 ghost use Rattle.flow_print.specs.Replayed.{IsBuilt};
 
 use crate::plain_top;
 use flow_body::{
-    Add, Builtins, CountTo, Echo, FailMemory, Len, Mul, Neg, Pair, Part, SplitEven, builtin_shelf,
+    Add, Builtins, CountTo, Echo, FailMemory, Len, Mul, Neg, Pair, Part, Shelf, SplitEven,
+    builtin_shelf,
 };
 use flow_doc::{Doc, Kept, Lives, Names, Nodes, Scripts};
 use flow_io::{MemSink, MemSource};
-use flow_item::{Event, Id, Item, Journal, Land, Link, PutAnswer, Text, Val};
+use flow_item::{Event, Id, Item, Journal, Land, Link, NoMemory, PutAnswer, Text, Val};
 use flow_print::{Status, print_report};
 use flow_shape::{Edge, Edges, Kind, Kinds, Shape};
 use std::alloc::Global;
@@ -46,13 +48,10 @@ pub(crate) fn sink(alloc: Global) -> MemSink {
     }
 }
 
-pub(crate) fn call(
-    alloc: Global,
-    line: &str,
-    source: &mut MemSource,
-    sink: &mut MemSink,
-) -> Result<(Status, Kept), Fail> {
-    let words = words_of(alloc, line)?;
+// The shelf of the built-in bodies.
+fn shelf(alloc: Global) -> Result<Shelf, NoMemory>
+    ensures { IfOk result (λ s. has_bodies (map (λ b. b.name) s.bodies.items) ≡ true) }
+{
     let bodies = Builtins {
         add: Box::new(alloc, Add)?,
         mul: Box::new(alloc, Mul)?,
@@ -65,7 +64,21 @@ pub(crate) fn call(
         count_to: Box::new(alloc, CountTo)?,
         fail_memory: Box::new(alloc, FailMemory)?,
     };
-    let shelf = builtin_shelf(alloc, bodies).ok().ok_or("a shelf")?;
+    let shelf = builtin_shelf(alloc, bodies)?;
+    Ok(shelf)
+}
+
+pub(crate) fn call(
+    alloc: Global,
+    line: &str,
+    source: &mut MemSource,
+    sink: &mut MemSink,
+) -> Result<(Status, Kept), Fail> {
+    let words = words_of(alloc, line)?;
+    let shelf = match shelf(alloc) {
+        Ok(shelf) => shelf,
+        Err(_) => return Err(Fail::from("a shelf")),
+    };
     let mut kept = Kept::new(alloc);
     let status = plain_top(alloc, words.as_slice(), source, sink, &shelf, &mut kept);
     Ok((status, kept))
