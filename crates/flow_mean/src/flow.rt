@@ -61,13 +61,13 @@ fn ports_of(
 
 /// What is found of a node.
 #[derive(Drop)]
-struct Found {
+struct NodeFound {
     passing: Passing,
     repeats: bool,
 }
 
 /// What a node passes and keeps, and whether a tag comes twice to a port. What was put to it is moved out.
-fn found(
+fn find(
     alloc: Global,
     doc: &Doc,
     shelf: &Shelf,
@@ -76,7 +76,7 @@ fn found(
     puts: &mut [Pairs],
     passed: &[Pairs],
     node: usize,
-) -> Result<Found, NoMemory>
+) -> Result<NodeFound, NoMemory>
     requires valid { IsValid doc.now.shape }
     requires kinds { list_all (kind_fits (length shelf.now.bodies.items)) doc.now.shape.nodes ≡ true }
     requires tidy { IsTidy (meanings_of_shelf (λ n. pure (n.body.vtable, n.body.value)) (λ n. single (n.body.vtable, n.body.value)) (λ n. out (n.body.vtable, n.body.value)) shelf.now.bodies.items) doc.now }
@@ -97,7 +97,7 @@ fn found(
     } else {
         pass(alloc, shelf, kind, ports.maps)?
     };
-    Ok(Found { passing, repeats })
+    Ok(NodeFound { passing, repeats })
 }
 
 /// What each node passes and keeps, and at which of them a tag comes twice to a port.
@@ -112,7 +112,7 @@ pub struct Flow {
 
 impl Flow {
     /// Notes what is found of a node.
-    fn note(&mut self, node: usize, found: Found)
+    fn note(&mut self, node: usize, found: NodeFound)
         requires passed { node < length self.old.passed.items }
         requires kept { node < length self.old.kept.items }
         requires repeats { node < length self.old.repeats.items }
@@ -138,7 +138,7 @@ impl Flow {
     ) -> Result<(), NoMemory>
         requires valid { IsValid doc.now.shape }
         requires kinds { list_all (kind_fits (length shelf.now.bodies.items)) doc.now.shape.nodes ≡ true }
-    requires tidy { IsTidy (meanings_of_shelf (λ n. pure (n.body.vtable, n.body.value)) (λ n. single (n.body.vtable, n.body.value)) (λ n. out (n.body.vtable, n.body.value)) shelf.now.bodies.items) doc.now }
+        requires tidy { IsTidy (meanings_of_shelf (λ n. pure (n.body.vtable, n.body.value)) (λ n. single (n.body.vtable, n.body.value)) (λ n. out (n.body.vtable, n.body.value)) shelf.now.bodies.items) doc.now }
         requires outs { AreOuts doc.now.shape outs.now }
         requires sources { AreSources doc.now.shape sources.now }
         requires within { node < length doc.now.shape.nodes }
@@ -148,7 +148,7 @@ impl Flow {
             → OnOk result (Passes (meanings_of_shelf (λ n. pure (n.body.vtable, n.body.value)) (λ n. single (n.body.vtable, n.body.value)) (λ n. out (n.body.vtable, n.body.value)) shelf.now.bodies.items) doc.now (done ++ node ∷ []) self.new.passed.items self.new.kept.items self.new.puts.items self.new.repeats.items) }
         ensures sizes { OnOk result (HasSizes doc.now self.new.passed.items self.new.kept.items self.new.puts.items self.new.repeats.items) }
     {
-        let found = found(
+        let found = find(
             alloc,
             doc,
             shelf,
@@ -187,7 +187,14 @@ pub fn flow_of(alloc: Global, doc: &Doc, shelf: &Shelf) -> Result<Flow, NoMemory
         puts: puts_of(alloc, doc)?,
     };
     for node in order.as_slice() {
-        flow.visit(alloc, doc, shelf, outs.as_slice(), sources.as_slice(), *node as usize)?;
+        flow.visit(
+            alloc,
+            doc,
+            shelf,
+            outs.as_slice(),
+            sources.as_slice(),
+            *node as usize,
+        )?;
     }
     Ok(flow)
 }

@@ -82,7 +82,11 @@ fn value_of(map: &[(u64, Val)], tag: u64) -> Option<&Val>
     if place >= map.len() {
         return None;
     }
-    if map[place].0 == tag { Some(&map[place].1) } else { None }
+    if map[place].0 == tag {
+        Some(&map[place].1)
+    } else {
+        None
+    }
 }
 
 /// Copies of the values of a tag, where each map has it.
@@ -101,7 +105,12 @@ fn values_of(alloc: Global, maps: &[Pairs], tag: u64) -> Result<Option<Vals>, No
 }
 
 /// Adds the tuple of a tag, where each map has it.
-fn add_tuple(alloc: Global, maps: &[Pairs], tuples: &mut Vec<(u64, Val)>, tag: u64) -> Result<(), NoMemory>
+fn add_tuple(
+    alloc: Global,
+    maps: &[Pairs],
+    tuples: &mut Vec<(u64, Val)>,
+    tag: u64,
+) -> Result<(), NoMemory>
     requires { AllByRecursion Rising maps.now }
     ensures { OnOk result (tuples.new.items ≡ tuples.old.items ++ tuples_of maps.now tag) }
 {
@@ -196,7 +205,12 @@ fn first(alloc: Global, maps: Vec<Pairs>) -> Pairs
 }
 
 /// What a node with edges out passes, and what it keeps.
-pub fn pass(alloc: Global, shelf: &Shelf, kind: &Kind, maps: Vec<Pairs>) -> Result<Passing, NoMemory>
+pub fn pass(
+    alloc: Global,
+    shelf: &Shelf,
+    kind: &Kind,
+    maps: Vec<Pairs>,
+) -> Result<Passing, NoMemory>
     requires fits { kind_fits (length shelf.now.bodies.items) kind.now ≡ true }
     requires orderly { is_orderly kind.now ≡ true }
     requires tied { has_free_body (meanings_of_shelf (λ n. pure (n.body.vtable, n.body.value)) (λ n. single (n.body.vtable, n.body.value)) (λ n. out (n.body.vtable, n.body.value)) shelf.now.bodies.items) kind.now ≡ false }
