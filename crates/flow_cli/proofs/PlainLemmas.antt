@@ -1,5 +1,5 @@
 -- From what the steps of a command come to, to what it promises.
-use Rattle.std.proofs.Common.{◌≡◌, ◌⊎◌, ◌∙◌, ◌<◌, ◌≤◌, ◌+◌, ◌^◌, ℕ, Bool, true, false, nat_lt, Option, Some, None, Result, Ok, Err, List, [], ◌∷◌, ◌++◌, length, refl, sym, ap, subst, inl, inr, arith}
+use Rattle.std.proofs.Common.{◌≡◌, ◌⊎◌, ◌∙◌, ◌<◌, ◌≤◌, ◌+◌, ◌^◌, ℕ, Bool, true, false, nat_lt, Option, Some, None, Result, Ok, Err, List, [], ◌∷◌, ◌++◌, length, map, refl, sym, ap, subst, inl, inr, arith}
 use Rattle.std.specs.Prelude.{⊤, is_some, is_none, IfSome, take}
 use Rattle.std.specs.List.{list_all}
 use Rattle.std.proofs.lemmas.List.{append-nil}
@@ -13,6 +13,9 @@ use Rattle.flow_shape.specs.Rules.{first_fault, IsValid}
 use Rattle.flow_machine.specs.Machine.{is_legal}
 use Rattle.flow_machine.specs.Bodies.{Meanings}
 use Rattle.flow_node.specs.Built.{is_built}
+use Rattle.flow_node.specs.Readied.{Readied}
+use Rattle.flow_nodes.specs.Stepping.{node_of}
+use Rattle.flow_print.specs.Replayed.{AreStates}
 use Rattle.flow_doc.specs.Fits.{doc_fits, kind_fits}
 use Rattle.flow_doc.specs.declared.Doc.{Doc}
 use Rattle.flow_doc.specs.declared.Kept.{Kept}
@@ -337,3 +340,8 @@ answers_run shelf meanings before after options doc kept status old new read run
     by_last : (ended.last ≡ report_ending options kept) ⊎ (ended.last ≡ no_memory) → IsEnding shelf (Some options) before after kept ended.last
     by_last (inl same) = rw same (options, refl, (rw run.document refl), refl, refl)
     by_last (inr same) = rw same tt
+
+-- nodes that were brought in print order are those of the document as before
+pub are_arranged : (doc : Option Doc) (es : List Event) (old new : List Readied) → map node_of new ≡ map node_of old → AreStates doc es old → AreStates doc es new
+are_arranged None es old new same states = tt
+are_arranged (Some doc) es old new same states = same ∙ states

@@ -75,6 +75,26 @@ fn print_kept<K: Sink>(
     }
 }
 
+// Writes the report of what is kept, with the items of the nodes brought in print order first.
+fn print_arranged<K: Sink>(
+    alloc: Global,
+    kept: &Kept,
+    mut nodes: Nodes,
+    options: Options,
+    sink: &mut K,
+) -> Status
+    requires kept { MayBePrinted kept.now.doc kept.now.journal }
+    requires states { AreStates kept.now.doc kept.now.journal nodes }
+    ensures ended { IsEnded (report_ending options kept.now) result (K.written sink.old) (K.written sink.new) }
+    ensures sent { (result ≡ Status.Write → ⊥) → K.is_sent sink.new ≡ true }
+    ensures cause { result ≡ Status.Write → Rose (K.faults sink.old) (K.faults sink.new) (K.is_full sink.new) }
+{
+    match nodes.arrange() {
+        Ok(()) => print_kept(alloc, kept, &nodes, options, sink),
+        Err(_) => tell_no_memory(sink),
+    }
+}
+
 /// Runs a document and writes the report.
 pub(crate) fn run_document<K: Sink>(
     alloc: Global,
@@ -95,8 +115,8 @@ pub(crate) fn run_document<K: Sink>(
     ensures cause { result ≡ Status.Write → Rose (K.faults sink.old) (K.faults sink.new) (K.is_full sink.new) }
 {
     match run_kept(alloc, options, doc, shelf, kept) {
-        Ending::Settled(nodes) => print_kept(alloc, kept, &nodes, options, sink),
-        Ending::Limit(nodes) => print_kept(alloc, kept, &nodes, options, sink),
+        Ending::Settled(nodes) => print_arranged(alloc, kept, nodes, options, sink),
+        Ending::Limit(nodes) => print_arranged(alloc, kept, nodes, options, sink),
         Ending::Memory => tell_no_memory(sink),
     }
 }
