@@ -1,7 +1,7 @@
 use Rattle.std.proofs.Common.{◌≡◌, Some, map, string_bytes, rules}
 use Rattle.flow_cli.specs.Words.{plain_options}
 use Rattle.flow_cli.proofs.PlainLemmas.{causes, completes}
-use Rattle.flow_cli.proofs.top.plain_top.Goals as goal
+use Rattle.flow_cli.proofs.top.plain_line.Goals as goal
 
 pub returns-in-Ok-Some-clause-legal_run : goal.returns-in-Ok-Some-clause-legal_run
 returns-in-Ok-Some-clause-legal_run g c =

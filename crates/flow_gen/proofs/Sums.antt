@@ -1,0 +1,83 @@
+-- Wrapping sums, one number after another.
+use Rattle.std.proofs.Common.{◌≡◌, ℕ, suc, ◌+◌, ◌<◌, ◌%◌, ◌^◌, ℤ, pos, Some, List, [], ◌∷◌, map, drop, slice_get, refl, sym, ap, ◌∙◌, add-one, drop-cons, arith}
+use native.Mathlib.Nat.{add-mod, mod-eq_of_lt, mod-lt}
+use mir.ValLaws as laws
+use Rattle.std.proofs.lemmas.Int.{of_z-to_z, to_z-of_z}
+use Rattle.std.proofs.lemmas.Option.{slice_get_within, get_or_from_slice_get}
+use Rattle.std.specs.Int.{w64, int_wrapping_add, cast_signed, cast_unsigned}
+use Rattle.std.specs.Int.RustNames.{FitsSigned}
+use mathlib.Core.Former as former
+use Rattle.flow_item.specs.declared.val.Val.{Val, Row_of-Val, items-the_row-Val, items_hidden-the_row-Val-0}
+use Rattle.flow_item.specs.declared.val.Val.TheBlock.{end_of-Val, more_of-Val, hidden-the_row-Val-0}
+use Rattle.flow_item.specs.declared.val.Val.TheVariants as V
+use Rattle.flow_item.specs.declared.item.Item.{Item}
+use Rattle.flow_item.specs.Pairs.{pair_of}
+use Rattle.flow_gen.specs.Generated.{whole_sum, row_sum, pairs_sum}
+use Rattle.flow_gen.specs.Sums.{total, values_sum, items_sum}
+
+-- ---- a list of values
+
+row_sum-items : {n : former.Count} (xs : Row_of-Val n) → row_sum xs ≡ values_sum (items-the_row-Val n xs)
+row_sum-items end_of-Val = refl
+row_sum-items (more_of-Val x xs) = ap (λ s. int_wrapping_add w64 (whole_sum x) s) (row_sum-items xs)
+
+pub sum_of_list : (xs : List Val) → whole_sum (V.List xs) ≡ values_sum xs
+sum_of_list xs = row_sum-items (hidden-the_row-Val-0 xs) ∙ ap values_sum (items_hidden-the_row-Val-0 xs)
+
+-- ---- wrapping addition
+
+positive : 0 < 2 ^ 64
+positive = refl
+
+below : (n : ℕ) → n % 2 ^ 64 < 2 ^ 64
+below n = mod-lt n positive
+
+bits_of_sum : (n : ℕ) → cast_unsigned w64 (cast_signed w64 (n % 2 ^ 64)) ≡ n % 2 ^ 64
+bits_of_sum n = of_z-to_z w64 (n % 2 ^ 64) (below n)
+
+once : (a b : ℕ) → (a % 2 ^ 64 + b) % 2 ^ 64 ≡ (a + b) % 2 ^ 64
+once a b = add-mod (a % 2 ^ 64) b (2 ^ 64) ∙ ap (λ x. (x + b % 2 ^ 64) % 2 ^ 64) (mod-eq_of_lt (below a)) ∙ sym (add-mod a b (2 ^ 64))
+
+grouped : (a b c : ℕ) → ((a + b) % 2 ^ 64 + c) % 2 ^ 64 ≡ (a + (b + c) % 2 ^ 64) % 2 ^ 64
+grouped a b c =
+    let left : ((a + b) % 2 ^ 64 + c) % 2 ^ 64 ≡ (a + b + c) % 2 ^ 64 = once (a + b) c in
+    let same : (a + b + c) % 2 ^ 64 ≡ (b + c + a) % 2 ^ 64 = ap (λ x. x % 2 ^ 64) (omega arith) in
+    let turned : (a + (b + c) % 2 ^ 64) % 2 ^ 64 ≡ ((b + c) % 2 ^ 64 + a) % 2 ^ 64 = ap (λ x. x % 2 ^ 64) (omega arith) in
+    left ∙ same ∙ sym (once (b + c) a) ∙ sym turned
+
+abbrev pub plus : ℤ → ℤ → ℤ
+plus x y = int_wrapping_add w64 x y
+
+plus_grouped : (x y z : ℤ) → plus (plus x y) z ≡ plus x (plus y z)
+plus_grouped x y z =
+    let a : ℕ = cast_unsigned w64 x in
+    let b : ℕ = cast_unsigned w64 y in
+    let c : ℕ = cast_unsigned w64 z in
+    ap (λ n. cast_signed w64 ((n + c) % 2 ^ 64)) (bits_of_sum (a + b)) ∙ ap (cast_signed w64) (grouped a b c) ∙ ap (λ n. cast_signed w64 ((a + n) % 2 ^ 64)) (sym (bits_of_sum (b + c)))
+
+-- ---- the steps of a loop
+
+zero_plus : (n : ℕ) → plus (pos 0) (cast_signed w64 (n % 2 ^ 64)) ≡ cast_signed w64 (n % 2 ^ 64)
+zero_plus n = ap (λ b. cast_signed w64 (b % 2 ^ 64)) (bits_of_sum n) ∙ ap (cast_signed w64) (mod-eq_of_lt (below n))
+
+pub sum_begins : {X : Type 0} (f : X → ℤ) (xs : List X) → plus (pos 0) (total f xs) ≡ total f xs
+sum_begins f [] = refl
+sum_begins f (x ∷ xs) = zero_plus (cast_unsigned w64 (f x) + cast_unsigned w64 (total f xs))
+
+dropped : {X : Type 0} (xs : List X) (i : ℕ) (x : X) → slice_get xs i ≡ Some x → drop i xs ≡ x ∷ drop (i + 1) xs
+dropped xs i x at = let lt = slice_get_within xs i x at in rw (add-one) (drop-cons xs i x lt ∙ ap (λ y. y ∷ drop (suc i) xs) (get_or_from_slice_get xs i x x at))
+
+pub sum_more : {X : Type 0} (f : X → ℤ) (xs : List X) (i : ℕ) (x : X) (sum goal' : ℤ) → slice_get xs i ≡ Some x → plus sum (total f (drop i xs)) ≡ goal' → plus (plus sum (f x)) (total f (drop (i + 1) xs)) ≡ goal'
+sum_more f xs i x sum goal' at h = plus_grouped sum (f x) (total f (drop (i + 1) xs)) ∙ ap (λ ys. plus sum (total f ys)) (sym (dropped xs i x at)) ∙ h
+
+pub sum_ends : (sum : ℤ) → FitsSigned w64 sum → plus sum (pos 0) ≡ sum
+sum_ends sum fits =
+    let small : cast_unsigned w64 sum % 2 ^ 64 ≡ cast_unsigned w64 sum = mod-eq_of_lt (laws.of_z_fits w64 sum fits).fits in
+    let none : cast_unsigned w64 sum + 0 ≡ cast_unsigned w64 sum = omega arith in
+    ap (λ n. cast_signed w64 (n % 2 ^ 64)) none ∙ (ap (cast_signed w64) small ∙ to_z-of_z w64 sum fits)
+
+-- ---- items
+
+pub sum_of_items : (items : List Item) → pairs_sum (map pair_of items) ≡ items_sum items
+sum_of_items [] = refl
+sum_of_items (i ∷ items) = ap (λ s. plus (whole_sum i.val) s) (sum_of_items items)
