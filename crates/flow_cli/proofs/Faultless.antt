@@ -222,7 +222,7 @@ module _ (app : App) (simple : is_simple app ≡ true) (defaults : list_all T.de
   top = (built app).top
 
   rest : List Text
-  rest = argument_words (built app) words
+  rest = argument_words app words
 
   names : Names
   names = names_of (built app)

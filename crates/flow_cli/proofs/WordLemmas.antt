@@ -66,6 +66,9 @@ uncounted text never = go (accepts false (P.Unsigned 1 90000) text) refl
     go true e = absurd (never (accepts-Accepts false (P.Unsigned 1 90000) text e))
     go false e = refl
 
+pub no-count : (text : List ℕ) → (IsNumeral 10 (without_leading_plus text) × (digits_value 10 (without_leading_plus text) < 2 ^ 32) → ⊥) → 1 ≡ count_of text
+no-count text never = uncounted text (λ a. never (a.0, omega (arith, a.3)))
+
 pub count-in : (f : Found) (o : Option (Bor Text)) (v : Option Text) (n : ℕ) → option_map (λ s. s.now) o ≡ first_value f (codes "count") → option_map (λ s. s.now) o ≡ v → n ≡ option_map_or count_of v 1 → n ≡ count_in (rows_of f)
 count-in f o v n h e is = is ∙ ap (λ (u : Option Text). option_map_or count_of u 1) (sym (seen f (codes "count") o v h e))
 

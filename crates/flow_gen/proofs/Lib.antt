@@ -1,5 +1,6 @@
 mod Numbers
 mod Places
+mod SummaryLemmas
 mod Sums
 mod Texts
 pub mod Fitting

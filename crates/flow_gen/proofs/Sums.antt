@@ -1,11 +1,9 @@
 -- Wrapping sums, one number after another.
 use Rattle.std.proofs.Common.{◌≡◌, ℕ, suc, ◌+◌, ◌<◌, ◌%◌, ◌^◌, ℤ, pos, Some, List, [], ◌∷◌, map, drop, slice_get, refl, sym, ap, ◌∙◌, add-one, drop-cons, arith}
 use native.Mathlib.Nat.{add-mod, mod-eq_of_lt, mod-lt}
-use mir.ValLaws as laws
-use Rattle.std.proofs.lemmas.Int.{of_z-to_z, to_z-of_z}
+use Rattle.std.proofs.lemmas.Int.{of_z-to_z}
 use Rattle.std.proofs.lemmas.Option.{slice_get_within, get_or_from_slice_get}
 use Rattle.std.specs.Int.{w64, int_wrapping_add, cast_signed, cast_unsigned}
-use Rattle.std.specs.Int.RustNames.{FitsSigned}
 use mathlib.Core.Former as former
 use Rattle.flow_item.specs.declared.val.Val.{Val, Row_of-Val, items-the_row-Val, items_hidden-the_row-Val-0}
 use Rattle.flow_item.specs.declared.val.Val.TheBlock.{end_of-Val, more_of-Val, hidden-the_row-Val-0}
@@ -27,7 +25,7 @@ sum_of_list xs = row_sum-items (hidden-the_row-Val-0 xs) ∙ ap values_sum (item
 -- ---- wrapping addition
 
 positive : 0 < 2 ^ 64
-positive = refl
+positive = omega arith
 
 below : (n : ℕ) → n % 2 ^ 64 < 2 ^ 64
 below n = mod-lt n positive
@@ -58,7 +56,9 @@ plus_grouped x y z =
 -- ---- the steps of a loop
 
 zero_plus : (n : ℕ) → plus (pos 0) (cast_signed w64 (n % 2 ^ 64)) ≡ cast_signed w64 (n % 2 ^ 64)
-zero_plus n = ap (λ b. cast_signed w64 (b % 2 ^ 64)) (bits_of_sum n) ∙ ap (cast_signed w64) (mod-eq_of_lt (below n))
+zero_plus n =
+    let none : 0 + cast_unsigned w64 (cast_signed w64 (n % 2 ^ 64)) ≡ cast_unsigned w64 (cast_signed w64 (n % 2 ^ 64)) = omega arith in
+    ap (λ b. cast_signed w64 (b % 2 ^ 64)) (none ∙ bits_of_sum n) ∙ ap (cast_signed w64) (mod-eq_of_lt (below n))
 
 pub sum_begins : {X : Type 0} (f : X → ℤ) (xs : List X) → plus (pos 0) (total f xs) ≡ total f xs
 sum_begins f [] = refl
@@ -67,14 +67,25 @@ sum_begins f (x ∷ xs) = zero_plus (cast_unsigned w64 (f x) + cast_unsigned w64
 dropped : {X : Type 0} (xs : List X) (i : ℕ) (x : X) → slice_get xs i ≡ Some x → drop i xs ≡ x ∷ drop (i + 1) xs
 dropped xs i x at = let lt = slice_get_within xs i x at in rw (add-one) (drop-cons xs i x lt ∙ ap (λ y. y ∷ drop (suc i) xs) (get_or_from_slice_get xs i x x at))
 
-pub sum_more : {X : Type 0} (f : X → ℤ) (xs : List X) (i : ℕ) (x : X) (sum goal' : ℤ) → slice_get xs i ≡ Some x → plus sum (total f (drop i xs)) ≡ goal' → plus (plus sum (f x)) (total f (drop (i + 1) xs)) ≡ goal'
-sum_more f xs i x sum goal' at h = plus_grouped sum (f x) (total f (drop (i + 1) xs)) ∙ ap (λ ys. plus sum (total f ys)) (sym (dropped xs i x at)) ∙ h
+pub sum_more : {X : Type 0} (f : X → ℤ) (xs : List X) (i : ℕ) (x : X) (sum w new goal' : ℤ) → slice_get xs i ≡ Some x → new ≡ plus sum w → w ≡ f x → plus sum (total f (drop i xs)) ≡ goal' → plus new (total f (drop (i + 1) xs)) ≡ goal'
+sum_more f xs i x sum w new goal' at p q h =
+    ap (λ (z : ℤ). plus z (total f (drop (i + 1) xs))) (p ∙ ap (λ (z : ℤ). plus sum z) q)
+    ∙ (plus_grouped sum (f x) (total f (drop (i + 1) xs)) ∙ (ap (λ (ys : List X). plus sum (total f ys)) (sym (dropped xs i x at)) ∙ h))
 
-pub sum_ends : (sum : ℤ) → FitsSigned w64 sum → plus sum (pos 0) ≡ sum
-sum_ends sum fits =
-    let small : cast_unsigned w64 sum % 2 ^ 64 ≡ cast_unsigned w64 sum = mod-eq_of_lt (laws.of_z_fits w64 sum fits).fits in
-    let none : cast_unsigned w64 sum + 0 ≡ cast_unsigned w64 sum = omega arith in
-    ap (λ n. cast_signed w64 (n % 2 ^ 64)) none ∙ (ap (cast_signed w64) small ∙ to_z-of_z w64 sum fits)
+-- a sum stays the same with nothing more
+plus_zero : (n : ℕ) → plus (cast_signed w64 (n % 2 ^ 64)) (pos 0) ≡ cast_signed w64 (n % 2 ^ 64)
+plus_zero n =
+    let none : cast_unsigned w64 (cast_signed w64 (n % 2 ^ 64)) + 0 ≡ cast_unsigned w64 (cast_signed w64 (n % 2 ^ 64)) = omega arith in
+    ap (λ b. cast_signed w64 (b % 2 ^ 64)) (none ∙ bits_of_sum n) ∙ ap (cast_signed w64) (mod-eq_of_lt (below n))
+
+pub stays_zero : plus (pos 0) (pos 0) ≡ pos 0
+stays_zero = zero_plus 0
+
+pub stays_sum : (x y z : ℤ) → z ≡ plus x y → plus z (pos 0) ≡ z
+stays_sum x y z e = ap (λ (s : ℤ). plus s (pos 0)) e ∙ (plus_zero (cast_unsigned w64 x + cast_unsigned w64 y) ∙ sym e)
+
+pub sum_done : {X : Type 0} (f : X → ℤ) (xs ys : List X) (sum goal' : ℤ) → ys ≡ [] → plus sum (pos 0) ≡ sum → plus sum (total f ys) ≡ goal' → sum ≡ goal'
+sum_done f xs ys sum goal' none stays h = sym stays ∙ (ap (λ (zs : List X). plus sum (total f zs)) (sym none) ∙ h)
 
 -- ---- items
 

@@ -4,7 +4,7 @@ ghost use Rattle.std.specs.Option.{option_copied};
 ghost use Rattle.flow_item.specs.Events.{births};
 ghost use Rattle.flow_machine.specs.PrintOrder.{items_in_order};
 ghost use Rattle.flow_print.specs.Replayed.{AreStates, pairs_in};
-ghost use Rattle.flow_gen.specs.Generated.{whole_sum, summary};
+ghost use Rattle.flow_gen.specs.Generated.{whole_sum, pairs_sum, summary};
 ghost use Rattle.flow_gen.specs.Sums.{values_sum, items_sum, first_pairs, summary_lines};
 
 use flow_doc::Doc;
@@ -69,6 +69,26 @@ fn first_sink<'a>(doc: &Doc, nodes: &'a Nodes) -> Option<&'a NodeState>
     }
 }
 
+// How many items the document's first sink has.
+fn sink_count(doc: &Doc, nodes: &Nodes) -> usize
+    ensures { result ≡ length (first_pairs doc.now.sinks nodes.now) }
+{
+    match first_sink(doc, nodes) {
+        Some(node) => node.item_count(),
+        None => 0,
+    }
+}
+
+// The wrapping sum of the whole numbers in them.
+fn sink_sum(doc: &Doc, nodes: &Nodes) -> i64
+    ensures { result ≡ pairs_sum (first_pairs doc.now.sinks nodes.now) }
+{
+    match first_sink(doc, nodes) {
+        Some(node) => node_sum(node),
+        None => 0,
+    }
+}
+
 fn summary_text(
     alloc: Global,
     count: u32,
@@ -96,15 +116,9 @@ pub fn summary(
     requires states { AreStates (Some doc.now) journal.now nodes.now }
     ensures { IfOk result (λ s. string_bytes s ≡ summary count doc.now journal.now status) }
 {
+    let lines = sink_count(doc, nodes);
+    let sum = sink_sum(doc, nodes);
     let last = last_line(alloc, journal, status)?;
-    match first_sink(doc, nodes) {
-        Some(node) => summary_text(
-            alloc,
-            count,
-            node.item_count(),
-            node_sum(node),
-            last.as_str(),
-        ),
-        None => summary_text(alloc, count, 0, 0, last.as_str()),
-    }
+    let text = summary_text(alloc, count, lines, sum, last.as_str())?;
+    Ok(text)
 }

@@ -1,5 +1,5 @@
 -- What the tests' calls of a store ask for.
-use Rattle.std.proofs.Common.{◌≡◌, ℕ, ◌+◌, suc, Bool, true, false, ◌&&◌, ◌==◌, Option, Some, None, List, [], ◌∷◌, drop, slice_get, refl, sym, ap, subst, ◌∙◌, add-one, drop-cons, eq-eqb}
+use Rattle.std.proofs.Common.{◌≡◌, ◌≤◌, arith, ℕ, ◌+◌, suc, Bool, true, false, ◌&&◌, ◌==◌, Option, Some, None, List, [], ◌∷◌, drop, slice_get, refl, sym, ap, subst, ◌∙◌, add-one, drop-cons, eq-eqb}
 use Rattle.std.specs.Prelude.{nat_lt, nat_eq, is_none}
 use Rattle.std.specs.List.{list_all, list_any}
 use Rattle.std.proofs.lemmas.Option.{slice_get_within, get_or_from_slice_get}
@@ -11,7 +11,7 @@ use Rattle.flow_machine.specs.State.{StoreState, Part, store_part}
 use Rattle.flow_machine.specs.Enabled.{is_at, is_numbered, is_reserved}
 use Rattle.flow_machine.specs.Offers.{when, store_front}
 use Rattle.flow_machine.specs.After.{part_after_hold}
-use Rattle.flow_store.specs.Stores.{may_go, goes, is_new}
+use Rattle.flow_store.specs.Stores.{may_go, goes, hold_room, is_new}
 
 same-number : (n : ℕ) → nat_eq n n ≡ true
 same-number n = eq-eqb n n refl
@@ -37,12 +37,16 @@ first-goes k p i h = by_list (may_go k p) h
 -- ---- a store that locks one item
 
 -- where an item may go, none is locked
-pub free-before : (k : Kind) (p : Part) (s : StoreState) (i : Item) (x n : ℕ) → p ≡ store_part s → first (may_go k p) ≡ Some i → is_reserved p x n ≡ false
-free-before k p s i x n is h = rw is (by_lock s.lock (subst (λ (q : Part). first (may_go k q) ≡ Some i) is h))
+pub free-before : (k : Kind) (p : Part) (s : StoreState) (x n : ℕ) → p ≡ store_part s → goes k p n ≡ true → is_reserved p x n ≡ false
+free-before k p s x n is h = rw is (by_lock s.lock (subst (λ (q : Part). goes k q n ≡ true) is h))
   where
-    by_lock : (o : Option Claim) → first (when (is_none o) (store_front k s.items s.next)) ≡ Some i → is_at o x n ≡ false
+    by_lock : (o : Option Claim) → list_any (is_numbered n) (when (is_none o) (store_front k s.items s.next)) ≡ true → is_at o x n ≡ false
     by_lock None e = refl
     by_lock (Some c) e = cc
+
+-- a hold takes no room there
+pub no-hold-room : (p : Part) (s : StoreState) (n : ℕ) → p ≡ store_part s → hold_room p ≤ n
+no-hold-room p s n is = rw is (omega arith)
 
 -- the item that was locked is
 pub held-then : (p : Part) (s : StoreState) (x n : ℕ) → p ≡ store_part s → is_reserved (part_after_hold p x n) x n ≡ true

@@ -1,7 +1,7 @@
-ghost use Rattle.std.specs.Prelude.{◌≡◌, ◌<◌, ◌^◌};
+ghost use Rattle.std.specs.Prelude.{◌≡◌, ◌<◌, ◌^◌, true, IfSome};
 ghost use Rattle.flow_machine.specs.Readers.{own_items};
 ghost use Rattle.flow_machine.specs.State.{StoreState, store_part};
-ghost use Rattle.flow_store.specs.Stores.{is_new, tag_after};
+ghost use Rattle.flow_store.specs.Stores.{goes, is_new, tag_after};
 
 use super::*;
 use flow_item::{Cause, Id, Item, Land, Text, Val};
@@ -55,11 +55,21 @@ fn put<S: Store>(store: &mut S, number: u64, tag: u64, val: Val, way: Way) -> &'
     }
 }
 
+// The number of the item that goes next.
+fn next_number<S: Store>(store: &S) -> Option<u64>
+    ensures { IfSome result (λ number. goes (S.kind store.now) (S.part store.now) number ≡ true) }
+{
+    match store.front() {
+        Some(item) => Some(item.id.no),
+        None => None,
+    }
+}
+
 // Gives the item that goes next.
 fn give<S: Store>(store: &mut S) -> Option<u64>
     requires { tag_after (S.kind store.old) (S.part store.old) < 2 ^ 64 }
 {
-    let number = store.front()?.id.no;
+    let number = next_number(store)?;
     store.give(9, number);
     Some(number)
 }
@@ -68,7 +78,7 @@ fn give<S: Store>(store: &mut S) -> Option<u64>
 fn hold<S: Store>(store: &mut S) -> Option<(u64, bool)>
     requires { (s : StoreState) × (S.part store.old ≡ store_part s) }
 {
-    let number = store.front()?.id.no;
+    let number = next_number(store)?;
     let all = store.len();
     store.hold(4, number);
     let stays = store.front().is_none() && store.len() == all;
@@ -81,7 +91,7 @@ fn take<S: Store>(store: &mut S) -> Option<u64>
     requires single { (s : StoreState) × (S.part store.old ≡ store_part s) }
     requires fits { tag_after (S.kind store.old) (S.part store.old) < 2 ^ 64 }
 {
-    let number = store.front()?.id.no;
+    let number = next_number(store)?;
     store.hold(4, number);
     store.take(4, number);
     Some(number)
@@ -92,12 +102,18 @@ fn oldest_goes_first(rt: HostRuntime) -> Result<(), Fail> {
     let mut store = FifoStore::new(rt.alloc(), Some(3));
     assert!(rt; give(&mut store).is_none() && hold(&mut store).is_none());
     for number in [5, 6, LAST] {
-        assert_eq!(rt; put(&mut store, number, LAST, Val::Int(7), Way::Edge), "kept");
+        assert_eq!(rt;
+            put(&mut store, number, LAST, Val::Int(7), Way::Edge),
+            "kept"
+        );
     }
     assert_eq!(rt; hold(&mut store), Some((5, true)));
     assert_eq!(rt; give(&mut store), Some(5));
     assert_eq!(rt; take(&mut store), Some(6));
-    assert_eq!(rt; (store.len(), store.at(0).map(|item| item.id.no)), (1, Some(LAST)));
+    assert_eq!(rt;
+        (store.len(), store.at(0).map(|item| item.id.no)),
+        (1, Some(LAST))
+    );
     Ok(())
 }
 
@@ -105,7 +121,10 @@ fn oldest_goes_first(rt: HostRuntime) -> Result<(), Fail> {
 fn full_buffer_bars(rt: HostRuntime) -> Result<(), Fail> {
     let mut store = BagStore::new(rt.alloc(), Some(1));
     for (number, answer) in [(0, "kept"), (1, "full"), (2, "full")] {
-        assert_eq!(rt; put(&mut store, number, 0, Val::Int(7), Way::Caller), answer);
+        assert_eq!(rt;
+            put(&mut store, number, 0, Val::Int(7), Way::Caller),
+            answer
+        );
     }
     assert_eq!(rt; hold(&mut store), Some((0, true)));
     assert_eq!(rt; take(&mut store), Some(0));
@@ -172,10 +191,19 @@ fn tags_go_in_order(rt: HostRuntime) -> Result<(), Fail> {
     for (number, tag, way, answer) in rows {
         assert_eq!(rt; put(&mut store, number, tag, Val::Int(7), way), answer);
     }
-    assert_eq!(rt; (number_at(&store, 0), number_at(&store, 1)), (Some(1), Some(0)));
+    assert_eq!(rt;
+        (number_at(&store, 0), number_at(&store, 1)),
+        (Some(1), Some(0))
+    );
     store.arrange()?;
-    assert_eq!(rt; (number_at(&store, 2), number_at(&store, 3)), (Some(4), None));
-    assert_eq!(rt; (give_next(&mut store), give_next(&mut store)), (Some(1), None));
+    assert_eq!(rt;
+        (number_at(&store, 2), number_at(&store, 3)),
+        (Some(4), None)
+    );
+    assert_eq!(rt;
+        (give_next(&mut store), give_next(&mut store)),
+        (Some(1), None)
+    );
     let later = [
         (6, 0, Way::Caller, "duplicate"),
         (7, 0, Way::Edge, "lost"),
@@ -185,7 +213,10 @@ fn tags_go_in_order(rt: HostRuntime) -> Result<(), Fail> {
         assert_eq!(rt; put(&mut store, number, tag, Val::Int(7), way), answer);
     }
     assert_eq!(rt; hold(&mut store), Some((8, true)));
-    assert_eq!(rt; (give_next(&mut store), give_next(&mut store)), (Some(8), Some(0)));
+    assert_eq!(rt;
+        (give_next(&mut store), give_next(&mut store)),
+        (Some(8), Some(0))
+    );
     assert_eq!(rt; (store.next(), store.len()), (3, 1));
     Ok(())
 }
