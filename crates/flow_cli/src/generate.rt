@@ -137,7 +137,7 @@ fn print_text<K: Sink>(alloc: Global, count: u32, sink: &mut K) -> Status
 }
 
 // A line of `gen`.
-fn generate<K: Sink>(
+fn serve_asked<K: Sink>(
     alloc: Global,
     asked: Generating,
     sink: &mut K,
@@ -175,7 +175,7 @@ pub(crate) fn gen_line<K: Sink>(
     ensures cause { result ≡ Status.Write → Rose (K.faults sink.old) (K.faults sink.new) (K.is_full sink.new) }
 {
     match gen_words(alloc, words) {
-        Ok(Some(asked)) => generate(alloc, asked, sink, shelf, kept),
+        Ok(Some(asked)) => serve_asked(alloc, asked, sink, shelf, kept),
         Ok(None) => say(sink, words_text(), Status::Words),
         Err(_) => tell_no_memory(sink),
     }

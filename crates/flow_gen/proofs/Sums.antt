@@ -1,15 +1,16 @@
 -- Wrapping sums, one number after another.
-use Rattle.std.proofs.Common.{◌≡◌, ℕ, suc, ◌+◌, ◌<◌, ◌%◌, ◌^◌, ℤ, pos, Some, List, [], ◌∷◌, map, drop, slice_get, refl, sym, ap, ◌∙◌, add-one, drop-cons, arith}
+use Rattle.std.proofs.Common.{◌≡◌, ℕ, suc, ◌+◌, ◌<◌, ◌≤◌, length, get_or, subst, ◌%◌, ◌^◌, ℤ, pos, Some, List, [], ◌∷◌, map, drop, slice_get, refl, sym, ap, ◌∙◌, add-one, drop-cons, arith}
 use native.Mathlib.Nat.{add-mod, mod-eq_of_lt, mod-lt}
 use Rattle.std.proofs.lemmas.Int.{of_z-to_z}
 use Rattle.std.proofs.lemmas.Option.{slice_get_within, get_or_from_slice_get}
+use Rattle.std.proofs.lemmas.List.{drop_all}
 use Rattle.std.specs.Int.{w64, int_wrapping_add, cast_signed, cast_unsigned}
 use mathlib.Core.Former as former
 use Rattle.flow_item.specs.declared.val.Val.{Val, Row_of-Val, items-the_row-Val, items_hidden-the_row-Val-0}
 use Rattle.flow_item.specs.declared.val.Val.TheBlock.{end_of-Val, more_of-Val, hidden-the_row-Val-0}
 use Rattle.flow_item.specs.declared.val.Val.TheVariants as V
 use Rattle.flow_item.specs.declared.item.Item.{Item}
-use Rattle.flow_item.specs.Pairs.{pair_of}
+use Rattle.flow_item.specs.Pairs.{Pair, pair_of}
 use Rattle.flow_gen.specs.Generated.{whole_sum, row_sum, pairs_sum}
 use Rattle.flow_gen.specs.Sums.{total, values_sum, items_sum}
 
@@ -67,10 +68,31 @@ sum_begins f (x ∷ xs) = zero_plus (cast_unsigned w64 (f x) + cast_unsigned w64
 dropped : {X : Type 0} (xs : List X) (i : ℕ) (x : X) → slice_get xs i ≡ Some x → drop i xs ≡ x ∷ drop (i + 1) xs
 dropped xs i x at = let lt = slice_get_within xs i x at in rw (add-one) (drop-cons xs i x lt ∙ ap (λ y. y ∷ drop (suc i) xs) (get_or_from_slice_get xs i x x at))
 
-pub sum_more : {X : Type 0} (f : X → ℤ) (xs : List X) (i : ℕ) (x : X) (sum w new goal' : ℤ) → slice_get xs i ≡ Some x → new ≡ plus sum w → w ≡ f x → plus sum (total f (drop i xs)) ≡ goal' → plus new (total f (drop (i + 1) xs)) ≡ goal'
+-- what was added is as its bits are read
+bits_of_plus : (x y z : ℤ) → z ≡ plus x y → cast_signed w64 (cast_unsigned w64 z) ≡ z
+bits_of_plus x y z e = ap (λ (s : ℤ). cast_signed w64 (cast_unsigned w64 s)) e ∙ (ap (cast_signed w64) (bits_of_sum (cast_unsigned w64 x + cast_unsigned w64 y)) ∙ sym e)
+
+pub bits_of_total : {X : Type 0} (f : X → ℤ) (xs : List X) → cast_signed w64 (cast_unsigned w64 (total f xs)) ≡ total f xs
+bits_of_total f [] = refl
+bits_of_total f (x ∷ xs) = bits_of_plus (f x) (total f xs) (plus (f x) (total f xs)) refl
+
+-- one more member
+pub sum_more : {X : Type 0} (f : X → ℤ) (xs : List X) (i : ℕ) (x : X) (sum w new goal' : ℤ) → drop i xs ≡ x ∷ drop (i + 1) xs → new ≡ plus sum w → w ≡ f x → plus sum (total f (drop i xs)) ≡ goal' →
+    plus (cast_signed w64 (cast_unsigned w64 new)) (total f (drop (i + 1) xs)) ≡ goal'
 sum_more f xs i x sum w new goal' at p q h =
-    ap (λ (z : ℤ). plus z (total f (drop (i + 1) xs))) (p ∙ ap (λ (z : ℤ). plus sum z) q)
-    ∙ (plus_grouped sum (f x) (total f (drop (i + 1) xs)) ∙ (ap (λ (ys : List X). plus sum (total f ys)) (sym (dropped xs i x at)) ∙ h))
+    ap (λ (z : ℤ). plus z (total f (drop (i + 1) xs))) (bits_of_plus sum w new p ∙ (p ∙ ap (λ (z : ℤ). plus sum z) q))
+    ∙ (plus_grouped sum (f x) (total f (drop (i + 1) xs)) ∙ (ap (λ ys. plus sum (total f ys)) (sym at) ∙ h))
+
+pub next_found : {X : Type 0} (xs : List X) (i : ℕ) (x : X) → slice_get xs i ≡ Some x → drop i xs ≡ x ∷ drop (i + 1) xs
+next_found xs i x at = dropped xs i x at
+
+pub next_read : {X : Type 0} (xs ys : List X) (i : ℕ) (x : X) → ys ≡ xs → i < length ys → x ≡ get_or ys i x → drop i xs ≡ x ∷ drop (i + 1) xs
+next_read xs ys i x same lt is =
+    let there : drop i ys ≡ x ∷ drop (i + 1) ys = rw (add-one) (drop-cons ys i x lt ∙ ap (λ y. y ∷ drop (suc i) ys) (sym is)) in
+    subst (λ zs. drop i zs ≡ x ∷ drop (i + 1) zs) same there
+
+pub none_left : {X : Type 0} (xs : List X) (n i : ℕ) → n ≡ length xs → n ≤ i → drop i xs ≡ []
+none_left xs n i e h = drop_all i xs (omega (arith, e, h))
 
 -- a sum stays the same with nothing more
 plus_zero : (n : ℕ) → plus (cast_signed w64 (n % 2 ^ 64)) (pos 0) ≡ cast_signed w64 (n % 2 ^ 64)
@@ -81,14 +103,21 @@ plus_zero n =
 pub stays_zero : plus (pos 0) (pos 0) ≡ pos 0
 stays_zero = zero_plus 0
 
-pub stays_sum : (x y z : ℤ) → z ≡ plus x y → plus z (pos 0) ≡ z
-stays_sum x y z e = ap (λ (s : ℤ). plus s (pos 0)) e ∙ (plus_zero (cast_unsigned w64 x + cast_unsigned w64 y) ∙ sym e)
+pub stays_sum : (x y z : ℤ) → z ≡ plus x y → plus (cast_signed w64 (cast_unsigned w64 z)) (pos 0) ≡ cast_signed w64 (cast_unsigned w64 z)
+stays_sum x y z e = plus_bits (bits_of_plus x y z e)
+  where
+    plus_bits : cast_signed w64 (cast_unsigned w64 z) ≡ z → plus (cast_signed w64 (cast_unsigned w64 z)) (pos 0) ≡ cast_signed w64 (cast_unsigned w64 z)
+    plus_bits b = ap (λ (s : ℤ). plus s (pos 0)) (b ∙ e) ∙ (plus_zero (cast_unsigned w64 x + cast_unsigned w64 y) ∙ (sym e ∙ sym b))
 
-pub sum_done : {X : Type 0} (f : X → ℤ) (xs ys : List X) (sum goal' : ℤ) → ys ≡ [] → plus sum (pos 0) ≡ sum → plus sum (total f ys) ≡ goal' → sum ≡ goal'
-sum_done f xs ys sum goal' none stays h = sym stays ∙ (ap (λ (zs : List X). plus sum (total f zs)) (sym none) ∙ h)
+pub sum_done : {X : Type 0} (f : X → ℤ) (ys : List X) (sum goal' : ℤ) → ys ≡ [] → plus sum (pos 0) ≡ sum → plus sum (total f ys) ≡ goal' → sum ≡ goal'
+sum_done f ys sum goal' none stays h = sym stays ∙ (ap (λ zs. plus sum (total f zs)) (sym none) ∙ h)
 
 -- ---- items
 
 pub sum_of_items : (items : List Item) → pairs_sum (map pair_of items) ≡ items_sum items
 sum_of_items [] = refl
 sum_of_items (i ∷ items) = ap (λ s. plus (whole_sum i.val) s) (sum_of_items items)
+
+pub sum_of_pairs : (ps : List Pair) → pairs_sum ps ≡ total (λ (p : Pair). whole_sum p.1) ps
+sum_of_pairs [] = refl
+sum_of_pairs (p ∷ ps) = ap (λ s. plus (whole_sum p.1) s) (sum_of_pairs ps)

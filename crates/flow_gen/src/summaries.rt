@@ -1,5 +1,6 @@
 // The summary of the run of a generated document.
 ghost use Rattle.std.specs.Prelude.{◌≡◌, ◌<◌, ◌≤◌, ◌^◌, Some, IfOk, length, slice_get, string_bytes};
+ghost use Rattle.std.specs.Int.{w64, int_wrapping_add};
 ghost use Rattle.std.specs.Option.{option_copied};
 ghost use Rattle.flow_item.specs.Events.{births};
 ghost use Rattle.flow_machine.specs.PrintOrder.{items_in_order};
@@ -13,6 +14,12 @@ use flow_node::NodeState;
 use flow_nodes::Nodes;
 use flow_print::{Status, last_line};
 use std::alloc::Global;
+
+fn plus(a: i64, b: i64) -> i64
+    ensures { result ≡ int_wrapping_add w64 a b }
+{
+    a.wrapping_add(b)
+}
 
 // The wrapping sum of the whole numbers in a value.
 #[cycle(sums)]
@@ -33,7 +40,7 @@ fn values_sum(parts: &Vals) -> i64
 {
     let mut sum: i64 = 0;
     for part in parts.as_slice() {
-        sum = sum.wrapping_add(whole_sum(part));
+        sum = plus(sum, whole_sum(part));
     }
     sum
 }
@@ -54,7 +61,7 @@ fn node_sum(node: &NodeState) -> i64
 {
     let mut sum: i64 = 0;
     for at in 0..node.item_count() {
-        sum = sum.wrapping_add(whole_sum(&item_at(node, at).val));
+        sum = plus(sum, whole_sum(&item_at(node, at).val));
     }
     sum
 }
