@@ -1,5 +1,5 @@
 -- The document that is found fits the shelf.
-use Rattle.std.proofs.Common.{◌≡◌, ℕ, ◌<◌, Bool, true, nat_lt, Option, Some, None, List, [], ◌∷◌, length, map, codes, refl, subst, arith}
+use Rattle.std.proofs.Common.{◌≡◌, ℕ, ◌<◌, true, nat_lt, Option, Some, None, List, [], ◌∷◌, length, map, codes, refl, subst, arith}
 use Rattle.std.specs.Prelude.{option_map, option_and_then}
 use Rattle.std.specs.List.{list_all}
 use Rattle.flow_shape.specs.declared.Shape.{Shape}
@@ -7,7 +7,7 @@ use Rattle.flow_doc.specs.declared.Doc.{Doc}
 use Rattle.flow_doc.specs.Fields.{place_from}
 use Rattle.flow_doc.specs.Fits.{doc_fits, step_fits}
 use Rattle.flow_doc.proofs.OnLiterals.{documents_compute}
-use Rattle.flow_gen.specs.Generated.{generated, generated_from, generated_nodes, generated_edges, generated_put, generated_script, share}
+use Rattle.flow_gen.specs.Generated.{generated, generated_from, generated_nodes, generated_edges, generated_put, share}
 use Rattle.flow_gen.proofs.Places.{found_below}
 
 abbrev shape_of : ℕ → ℕ → ℕ → Shape

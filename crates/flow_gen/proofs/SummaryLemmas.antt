@@ -6,7 +6,6 @@ use Rattle.flow_item.specs.declared.item.Item.{Item}
 use Rattle.flow_item.specs.declared.event.Event.{Event}
 use Rattle.flow_item.specs.Pairs.{Pair, pair_of}
 use Rattle.flow_shape.specs.declared.Shape.{Shape}
-use Rattle.flow_machine.specs.PrintOrder.{items_in_order}
 use Rattle.flow_node.specs.Readied.{Readied}
 use Rattle.flow_nodes.specs.Stepping.{node_of}
 use Rattle.flow_nodes.specs.Rows.{nodes_of}

@@ -1,9 +1,8 @@
 -- The text of a generated document, part by part.
-use Rattle.std.proofs.Common.{◌≡◌, ℕ, zero, suc, ◌+◌, ◌<◌, ◌%◌, Bool, true, false, cond, nat_eq, Option, Some, None, List, [], ◌∷◌, ◌++◌, map, slice_get, codes, decimal, refl, sym, ap, subst, ◌∙◌, append_assoc, arith, eqb-true}
+use Rattle.std.proofs.Common.{◌≡◌, ℕ, ◌+◌, ◌<◌, ◌%◌, Bool, true, false, nat_eq, Option, Some, None, List, [], ◌∷◌, ◌++◌, map, codes, decimal, refl, sym, ap, ◌∙◌, append_assoc, eqb-true}
 use Rattle.std.specs.Prelude.{is_some, option_map, option_and_then, ◌&&◌}
 use Rattle.serde_json.specs.View.{items_of}
 use Rattle.serde_json.specs.Written.{comma_if, compact_text, items_text}
-use Rattle.flow_item.proofs.Tests.{and_left, and_right}
 use Rattle.flow_shape.specs.declared.Step.{Step}
 use Rattle.flow_shape.specs.declared.Step.TheVariants as T
 use Rattle.flow_doc.specs.Fields.{place_from}
@@ -11,7 +10,7 @@ use Rattle.flow_doc.proofs.OnLiterals.{documents_compute}
 use Rattle.serde_json.specs.Data.{Data, string}
 use Rattle.flow_print.specs.DocText.{Member, object_of, list_data, count, edge_data, step_data, doc_data, doc_text, doc_output}
 use Rattle.flow_print.specs.Sinks.{name_of}
-use Rattle.flow_gen.specs.Generated.{generated, generated_from, generated_text, generated_names, generated_edges, generated_put, generated_script, has_bodies}
+use Rattle.flow_gen.specs.Generated.{generated, generated_text, generated_names, generated_edges, generated_script, has_bodies}
 use Rattle.flow_gen.proofs.Numbers.{rest, rest_more, own_is, own_not}
 use Rattle.flow_gen.proofs.Places.{found_name}
 use Rattle.flow_gen.specs.Texts.{if_own, put_text, puts_text, script_text, scripts_text, head_text, tail_text}

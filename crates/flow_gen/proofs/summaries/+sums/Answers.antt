@@ -1,4 +1,4 @@
-use Rattle.std.proofs.Common.{sym, ap, drop, length, rules}
+use Rattle.std.proofs.Common.{ap, drop, length, rules}
 use Rattle.std.specs.Int.{w64, cast_signed, cast_unsigned}
 use Rattle.flow_gen.specs.Generated.{whole_sum}
 use Rattle.flow_gen.proofs.Sums.{stays_zero, stays_sum, sum_begins, sum_more, sum_done, next_read, none_left}
