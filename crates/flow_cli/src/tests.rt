@@ -1,5 +1,4 @@
 ghost use Rattle.std.specs.Prelude.{◌≡◌, IfOk, None, true, map, [], ◌∷◌};
-ghost use Rattle.flow_gen.specs.Generated.{has_bodies};
 ghost use Rattle.flow_print.specs.Report.{MayBePrinted};
 ghost use Rattle.flow_print.specs.Replayed.{IsBuilt};
 
@@ -48,10 +47,13 @@ pub(crate) fn sink(alloc: Global) -> MemSink {
     }
 }
 
-// The shelf of the built-in bodies.
-fn shelf(alloc: Global) -> Result<Shelf, NoMemory>
-    ensures { IfOk result (λ s. has_bodies (map (λ b. b.name) s.bodies.items) ≡ true) }
-{
+// What the words come to, with the shelf of the built-in bodies.
+fn serve(
+    alloc: Global,
+    words: &[String],
+    source: &mut MemSource,
+    sink: &mut MemSink,
+) -> Result<(Status, Kept), NoMemory> {
     let bodies = Builtins {
         add: Box::new(alloc, Add)?,
         mul: Box::new(alloc, Mul)?,
@@ -65,7 +67,9 @@ fn shelf(alloc: Global) -> Result<Shelf, NoMemory>
         fail_memory: Box::new(alloc, FailMemory)?,
     };
     let shelf = builtin_shelf(alloc, bodies)?;
-    Ok(shelf)
+    let mut kept = Kept::new(alloc);
+    let status = plain_top(alloc, words, source, sink, &shelf, &mut kept);
+    Ok((status, kept))
 }
 
 pub(crate) fn call(
@@ -75,13 +79,10 @@ pub(crate) fn call(
     sink: &mut MemSink,
 ) -> Result<(Status, Kept), Fail> {
     let words = words_of(alloc, line)?;
-    let shelf = match shelf(alloc) {
-        Ok(shelf) => shelf,
-        Err(_) => return Err(Fail::from("a shelf")),
-    };
-    let mut kept = Kept::new(alloc);
-    let status = plain_top(alloc, words.as_slice(), source, sink, &shelf, &mut kept);
-    Ok((status, kept))
+    match serve(alloc, words.as_slice(), source, sink) {
+        Ok(served) => Ok(served),
+        Err(_) => Err(Fail::from("no memory")),
+    }
 }
 
 pub(crate) fn expect(
