@@ -2,3 +2,4 @@ pub mod Faultless
 pub mod WordLemmas
 pub mod Built
 pub mod PlainLemmas
+mod GenLemmas

@@ -144,7 +144,7 @@ ended_fault (D.Shape fault) status old new e = e
 -- ---- statuses
 
 -- writing failed, memory ran out, or the status is the ending's
-status_of : (ending : Ending) (status : Status) (old new : Option (List ℕ)) → IsWritten ending status old new → (status ≡ S.Write) ⊎ ((status ≡ S.Memory) ⊎ (status ≡ ending_status ending))
+pub status_of : (ending : Ending) (status : Status) (old new : Option (List ℕ)) → IsWritten ending status old new → (status ≡ S.Write) ⊎ ((status ≡ S.Memory) ⊎ (status ≡ ending_status ending))
 status_of ending S.Write old new h = inl refl
 status_of ending S.Memory old new h = inr (inl refl)
 status_of ending status old new h = inr (inr h.0)

@@ -7,6 +7,7 @@ use Rattle.clap.specs.ValueTests.{accepts}
 use Rattle.clap.specs.Words.{App, Row, Rule, Text, first_of, matches_of, new_app, new_rule, takes, with_rule}
 use Rattle.clap.specs.declared.builder.action.ArgAction.TheVariants as A
 use Rattle.clap.specs.declared.builder.value_parser.ValueParser.TheVariants as P
+use Rattle.flow_cli.specs.declared.words.Generating.{Generating}
 use Rattle.flow_cli.specs.declared.words.Options.{Options}
 
 -- the option `--journal`
@@ -45,3 +46,29 @@ options_in rows = record { journal = is_set (codes "journal") rows; items = item
 -- what a line of `plain` asks for; other words are no line of it
 abbrev pub plain_options : List Text → Option Options
 plain_options words = if is_line_of plain_app words then Some (options_in (matches_of plain_app words)) else None
+
+-- ---- the command `gen`
+
+-- the number, from 1 to 90000
+abbrev pub count_rule : Rule
+count_rule = record (new_rule (codes "count")) { action = Some A.Set; parser = Some (P.Unsigned 1 90000); required = true }
+
+-- the option `--text`
+abbrev pub text_rule : Rule
+text_rule = record (new_rule (codes "text")) { long = Some (codes "text"); action = Some A.SetTrue }
+
+abbrev pub gen_app : App
+gen_app = with_rule (with_rule (new_app (codes "gen")) count_rule) text_rule
+
+abbrev pub count_of : Text → ℕ
+count_of text = if accepts false (P.Unsigned 1 90000) text then digits_value 10 (without_leading_plus text) else 1
+
+abbrev pub count_in : List Row → ℕ
+count_in rows = option_map_or count_of (first_of (codes "count") rows) 1
+
+abbrev pub generating_in : List Row → Generating
+generating_in rows = record { count = count_in rows; text = is_set (codes "text") rows }
+
+-- what a line of `gen` asks for; other words are no line of it
+abbrev pub gen_options : List Text → Option Generating
+gen_options words = if is_line_of gen_app words then Some (generating_in (matches_of gen_app words)) else None

@@ -1,7 +1,7 @@
 // The words of a command line.
 ghost use Rattle.std.specs.Prelude.{◌≡◌, IfOk, map, string_bytes};
 ghost use Rattle.clap.specs.Words.{app_of, found_of, rows_of};
-ghost use Rattle.flow_cli.specs.Words.{plain_app, plain_options, begins_with, is_set, items_in, items_of};
+ghost use Rattle.flow_cli.specs.Words.{plain_app, plain_options, gen_app, gen_options, begins_with, is_set, items_in, items_of, count_in, count_of};
 
 use clap::builder::ValueParser;
 use clap::error::ErrorKind;
@@ -24,6 +24,18 @@ pub struct Options {
     pub items: u64,
 }
 
+/// The greatest number of which a document is generated.
+const MOST_COUNT: u32 = 90_000;
+
+/// What the words ask of the generator.
+#[derive(Clone, Copy, Debug)]
+pub struct Generating {
+    /// The number whose document it is.
+    pub count: u32,
+    /// The document is printed, and not run.
+    pub text: bool,
+}
+
 // The command `plain` with its options.
 fn plain_command<'a>(alloc: Global) -> Result<Command<'a>, AllocError>
     ensures { IfOk result (λ c. app_of c ≡ plain_app) }
@@ -37,6 +49,45 @@ fn plain_command<'a>(alloc: Global) -> Result<Command<'a>, AllocError>
         .value_parser(ValueParser::Unsigned(0, MOST_ITEMS))
         .default_value("1000000");
     Command::new(alloc, "plain").arg(journal)?.arg(items)
+}
+
+// The command `gen` with its number and its option.
+fn gen_command<'a>(alloc: Global) -> Result<Command<'a>, AllocError>
+    ensures { IfOk result (λ c. app_of c ≡ gen_app) }
+{
+    let count = Arg::new(alloc, "count")
+        .action(ArgAction::Set)
+        .value_parser(ValueParser::Unsigned(1, MOST_COUNT as u64))
+        .required(true);
+    let text = Arg::new(alloc, "text")
+        .long("text")
+        .action(ArgAction::SetTrue);
+    Command::new(alloc, "gen").arg(count)?.arg(text)
+}
+
+// The number that a text tells.
+fn count_of(text: &str) -> u32
+    ensures { result ≡ count_of text.now }
+{
+    match text.parse::<u32>() {
+        Ok(count) => {
+            if 1 <= count && count <= MOST_COUNT {
+                count
+            } else {
+                1
+            }
+        }
+        Err(_) => 1,
+    }
+}
+
+fn count_in(matches: &ArgMatches<'_>) -> u32
+    ensures { result ≡ count_in (rows_of (found_of matches.now)) }
+{
+    match matches.get_str("count") {
+        Some(text) => count_of(text),
+        None => 1,
+    }
 }
 
 // The number of items that a text tells.
@@ -73,7 +124,8 @@ fn is_set(matches: &ArgMatches<'_>, id: &str) -> bool
     }
 }
 
-fn is_named(words: &[String], name: &str) -> bool
+/// Whether the first word is this name.
+pub(crate) fn is_named(words: &[String], name: &str) -> bool
     ensures { result ≡ begins_with name.now (map string_bytes words.now) }
 {
     match words.first() {
@@ -95,6 +147,27 @@ pub fn plain_words(alloc: Global, words: &[String]) -> Result<Option<Options>, N
             let journal = is_set(&matches, "journal");
             let items = items_in(&matches);
             Ok(Some(Options { journal, items }))
+        }
+        Err(error) => match error.kind() {
+            ErrorKind::OutOfMemory => Err(NoMemory),
+            _ => Ok(None),
+        },
+    }
+}
+
+/// What the words ask of `gen`, where they are a line of it.
+pub fn gen_words(alloc: Global, words: &[String]) -> Result<Option<Generating>, NoMemory>
+    ensures { IfOk result (λ asked. asked ≡ gen_options (map string_bytes words.now)) }
+{
+    if !is_named(words, "gen") {
+        return Ok(None);
+    }
+    let command = gen_command(alloc)?;
+    match command.try_get_matches_from(words) {
+        Ok(matches) => {
+            let count = count_in(&matches);
+            let text = is_set(&matches, "text");
+            Ok(Some(Generating { count, text }))
         }
         Err(error) => match error.kind() {
             ErrorKind::OutOfMemory => Err(NoMemory),
