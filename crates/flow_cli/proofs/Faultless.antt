@@ -19,7 +19,7 @@ use Rattle.clap.specs.declared.builder.value_parser.ValueParser.{ValueParser}
 use Rattle.clap.specs.declared.error.kind.ErrorKind.{ErrorKind}
 use Rattle.clap.specs.declared.error.kind.ErrorKind.TheVariants as kind
 use Rattle.clap.proofs.OnLiterals.{clap_on_literals}
-use Rattle.flow_cli.specs.Words.{plain_app, gen_app}
+use Rattle.flow_cli.specs.Words.{plain_app, gen_app, check_app}
 
 -- ---- kinds
 
@@ -294,3 +294,25 @@ entered_gen (Some p) = refl
 
 pub faultless_gen : (words : List Text) → F.fault_of gen_app words ≡ [] → T.takes gen_app words ≡ true
 faultless_gen words f = taken gen_app simple_gen defaults_gen checked_gen words entered_gen f
+
+-- ---- the command `check`
+
+defaults_check : list_all T.default_passes (built check_app).top.rules ≡ true
+unfolding clap_on_literals
+defaults_check = refl
+
+checked_check : (rows : List Row) (has : Bool) → F.check_fault (built check_app).top rows has ≡ [] → T.is_valid (built check_app).top rows has ≡ true
+unfolding clap_on_literals
+checked_check rows true f = refl
+checked_check rows false f = refl
+
+simple_check : is_simple check_app ≡ true
+unfolding clap_on_literals
+simple_check = refl
+
+entered_check : (o : Option (Text × List Text)) → T.entered_passes (built check_app) o ≡ true
+entered_check None = refl
+entered_check (Some p) = refl
+
+pub faultless_check : (words : List Text) → F.fault_of check_app words ≡ [] → T.takes check_app words ≡ true
+faultless_check words f = taken check_app simple_check defaults_check checked_check words entered_check f

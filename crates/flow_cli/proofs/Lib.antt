@@ -3,3 +3,4 @@ pub mod WordLemmas
 pub mod Built
 pub mod PlainLemmas
 mod GenLemmas
+mod CheckLemmas

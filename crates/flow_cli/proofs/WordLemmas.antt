@@ -17,8 +17,8 @@ use Rattle.clap.proofs.ValueTestLemmas.{Accepts-accepts, accepts-Accepts}
 use Rattle.clap.proofs.WalkLemmas.{first_value-rows}
 use Rattle.clap.specs.declared.builder.command.Command.{Command}
 use Rattle.clap.specs.declared.parser.matches.ArgMatches.{ArgMatches}
-use Rattle.flow_cli.proofs.Faultless.{faultless, faultless_gen}
-use Rattle.flow_cli.specs.Words.{begins_with, is_line_of, is_set, items_in, items_of, options_in, plain_app, plain_options, count_in, count_of, generating_in, gen_app, gen_options}
+use Rattle.flow_cli.proofs.Faultless.{faultless, faultless_gen, faultless_check}
+use Rattle.flow_cli.specs.Words.{begins_with, is_line_of, is_set, items_in, items_of, options_in, plain_app, plain_options, count_in, count_of, generating_in, gen_app, gen_options, check_app, check_asked}
 
 -- ---- the number of items
 
@@ -102,7 +102,7 @@ module _ {O : Type 0} (app : App) (free : is_simple_and_free app ≡ true) (simp
       by_taken true is = absurd (never (passes (ap (λ (b : App). takes b words) same ∙ is)))
       by_taken false is = rw (line-is false is) refl
 
--- ---- the two commands
+-- ---- the three commands
 
 is_plain : is_simple_and_free plain_app ≡ true
 unfolding clap_on_literals
@@ -131,3 +131,17 @@ accepted_gen words c m named = accepted_of gen_app is_gen is_gen_matched faultle
 
 pub refused_gen : (words : List Text) (c : Command) (e : Error) → begins_with (codes "gen") words ≡ true → app_of c ≡ gen_app → (takes (app_of c) words ≡ true → kind_of e ≡ OutOfMemory) → (kind_of e ≡ OutOfMemory → ⊥) → None ≡ gen_options words
 refused_gen words c e named = refused_of gen_app is_gen is_gen_matched faultless_gen generating_in words named c e
+
+is_check : is_simple_and_free check_app ≡ true
+unfolding clap_on_literals
+is_check = refl
+
+is_check_matched : is_simple check_app ≡ true
+unfolding clap_on_literals
+is_check_matched = refl
+
+pub accepted_check : (words : List Text) (c : Command) (m : ArgMatches) → begins_with (codes "check") words ≡ true → app_of c ≡ check_app → (is_simple_and_free (app_of c) ≡ true → fault_of (app_of c) words ≡ []) → HasMatchesOf (app_of c) words m → Some tt ≡ check_asked words
+accepted_check words c m named = accepted_of check_app is_check is_check_matched faultless_check (λ rows. tt) words named c m
+
+pub refused_check : (words : List Text) (c : Command) (e : Error) → begins_with (codes "check") words ≡ true → app_of c ≡ check_app → (takes (app_of c) words ≡ true → kind_of e ≡ OutOfMemory) → (kind_of e ≡ OutOfMemory → ⊥) → None ≡ check_asked words
+refused_check words c e named = refused_of check_app is_check is_check_matched faultless_check (λ rows. tt) words named c e

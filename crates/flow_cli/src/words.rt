@@ -1,11 +1,11 @@
 // The words of a command line.
 ghost use Rattle.std.specs.Prelude.{◌≡◌, IfOk, map, string_bytes};
 ghost use Rattle.clap.specs.Words.{app_of, found_of, rows_of};
-ghost use Rattle.flow_cli.specs.Words.{plain_app, plain_options, gen_app, gen_options, begins_with, is_set, items_in, items_of, count_in, count_of};
+ghost use Rattle.flow_cli.specs.Words.{plain_app, plain_options, gen_app, gen_options, check_app, check_asked, command_of, begins_with, is_set, items_in, items_of, count_in, count_of};
 
 use clap::builder::ValueParser;
 use clap::error::ErrorKind;
-use clap::{Arg, ArgAction, ArgMatches, Command};
+use clap::{Arg, ArgAction, ArgMatches, Command as Line};
 use flow_item::NoMemory;
 use std::alloc::{AllocError, Global};
 
@@ -14,6 +14,14 @@ const MOST_ITEMS: u64 = 2_000_000;
 
 /// The items that a run may bear where no number is told.
 const USUAL_ITEMS: u64 = 1_000_000;
+
+/// A command without threads.
+#[derive(Clone, Copy, Debug)]
+pub enum Command {
+    Plain,
+    Gen,
+    Check,
+}
 
 /// What the words ask of a run.
 #[derive(Clone, Copy, Debug)]
@@ -37,7 +45,7 @@ pub struct Generating {
 }
 
 // The command `plain` with its options.
-fn plain_command<'a>(alloc: Global) -> Result<Command<'a>, AllocError>
+fn plain_command<'a>(alloc: Global) -> Result<Line<'a>, AllocError>
     ensures { IfOk result (λ c. app_of c ≡ plain_app) }
 {
     let journal = Arg::new(alloc, "journal")
@@ -48,11 +56,11 @@ fn plain_command<'a>(alloc: Global) -> Result<Command<'a>, AllocError>
         .action(ArgAction::Set)
         .value_parser(ValueParser::Unsigned(0, MOST_ITEMS))
         .default_value("1000000");
-    Command::new(alloc, "plain").arg(journal)?.arg(items)
+    Line::new(alloc, "plain").arg(journal)?.arg(items)
 }
 
 // The command `gen` with its number and its option.
-fn gen_command<'a>(alloc: Global) -> Result<Command<'a>, AllocError>
+fn gen_command<'a>(alloc: Global) -> Result<Line<'a>, AllocError>
     ensures { IfOk result (λ c. app_of c ≡ gen_app) }
 {
     let count = Arg::new(alloc, "count")
@@ -62,7 +70,7 @@ fn gen_command<'a>(alloc: Global) -> Result<Command<'a>, AllocError>
     let text = Arg::new(alloc, "text")
         .long("text")
         .action(ArgAction::SetTrue);
-    Command::new(alloc, "gen").arg(count)?.arg(text)
+    Line::new(alloc, "gen").arg(count)?.arg(text)
 }
 
 // The number that a text tells.
@@ -173,5 +181,35 @@ pub fn gen_words(alloc: Global, words: &[String]) -> Result<Option<Generating>, 
             ErrorKind::OutOfMemory => Err(NoMemory),
             _ => Ok(None),
         },
+    }
+}
+
+/// Whether the words are a line of `check`, which has no options.
+pub fn check_words(alloc: Global, words: &[String]) -> Result<Option<()>, NoMemory>
+    ensures { IfOk result (λ asked. asked ≡ check_asked (map string_bytes words.now)) }
+{
+    if !is_named(words, "check") {
+        return Ok(None);
+    }
+    let command = Line::new(alloc, "check");
+    match command.try_get_matches_from(words) {
+        Ok(_) => Ok(Some(())),
+        Err(error) => match error.kind() {
+            ErrorKind::OutOfMemory => Err(NoMemory),
+            _ => Ok(None),
+        },
+    }
+}
+
+/// The command that the first word names. Words that name none are left to `plain`, which refuses them.
+pub(crate) fn named_command(words: &[String]) -> Command
+    ensures { result ≡ command_of (map string_bytes words.now) }
+{
+    if is_named(words, "gen") {
+        Command::Gen
+    } else if is_named(words, "check") {
+        Command::Check
+    } else {
+        Command::Plain
     }
 }
