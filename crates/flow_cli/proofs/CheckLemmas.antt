@@ -7,13 +7,17 @@ use Rattle.flow_item.specs.Pairs.{Pair}
 use Rattle.flow_item.proofs.Tests.{and_left, and_right, both_true}
 use Rattle.flow_shape.specs.declared.Kind.{Kind}
 use Rattle.flow_shape.specs.declared.Kind.TheVariants as K
+use Rattle.flow_shape.specs.declared.Shape.{Shape}
+use Rattle.flow_shape.specs.Kinds.{may_be_sink}
+use Rattle.flow_shape.specs.Wiring.{is_some_and}
+use Rattle.std.proofs.lemmas.Option.{slice_get_within}
 use Rattle.flow_machine.specs.Bodies.{Meanings}
 use Rattle.flow_node.specs.Built.{is_built}
 use Rattle.flow_doc.specs.declared.Doc.{Doc}
 use Rattle.flow_doc.specs.declared.Kept.{Kept}
 use Rattle.flow_doc.specs.declared.DocFault.{DocFault}
 use Rattle.flow_doc.specs.declared.DocFault.TheVariants as D
-use Rattle.flow_doc.specs.Fits.{doc_fits}
+use Rattle.flow_doc.specs.Fits.{doc_fits, sink_fits}
 use Rattle.flow_doc.specs.Reading.{document}
 use Rattle.flow_mean.specs.declared.Loose.{Loose}
 use Rattle.flow_mean.specs.declared.judge.Meant.{Meant}
@@ -77,21 +81,26 @@ loose_text_is meanings doc loose built fails =
 
 -- ---- the meaning
 
-sinks_alike : (names : List (List ℕ)) (has had : ℕ → List Pair) (size : ℕ) (sinks : List ℕ) → list_all (λ n. nat_lt n size) sinks ≡ true → ((n : ℕ) → n < size → has n ≡ had n) → all_sink_lines names has sinks ≡ all_sink_lines names had sinks
-sinks_alike names has had size [] within same = refl
-sinks_alike names has had size (n ∷ ns) within same =
-    let here : has n ≡ had n = same n (below n size (and_left (nat_lt n size) _ within)) in
-    ap (λ ps. (line (name_of names n ∷ decimal (length ps) ∷ []) ∷ map pair_line ps) ++ all_sink_lines names has ns) here
-    ∙ ap (λ ls. sink_lines names had n ++ ls) (sinks_alike names has had size ns (and_right (nat_lt n size) _ within) same)
+-- a sink is a node
+sink_within : (shape : Shape) (n : ℕ) → sink_fits shape n ≡ true → n < length shape.nodes
+sink_within shape n h = by_kind (slice_get shape.nodes n) refl h
   where
-    below : (n m : ℕ) → nat_lt n m ≡ true → n < m
-    below n m h = grind (arith)
+    by_kind : (o : Option Kind) → slice_get shape.nodes n ≡ o → is_some_and may_be_sink o ≡ true → n < length shape.nodes
+    by_kind None at h = cc
+    by_kind (Some k) at h = slice_get_within shape.nodes n k at
+
+sinks_alike : (shape : Shape) (names : List (List ℕ)) (has had : ℕ → List Pair) (sinks : List ℕ) → list_all (sink_fits shape) sinks ≡ true → ((n : ℕ) → n < length shape.nodes → has n ≡ had n) → all_sink_lines names has sinks ≡ all_sink_lines names had sinks
+sinks_alike shape names has had [] within same = refl
+sinks_alike shape names has had (n ∷ ns) within same =
+    let here : has n ≡ had n = same n (sink_within shape n (and_left (sink_fits shape n) _ within)) in
+    ap (λ ps. (line (name_of names n ∷ decimal (length ps) ∷ []) ∷ map pair_line ps) ++ all_sink_lines names has ns) here
+    ∙ ap (λ ls. sink_lines names had n ++ ls) (sinks_alike shape names has had ns (and_right (sink_fits shape n) _ within) same)
 
 -- what is printed of a determinate document
 pub meant_text : (meanings : Meanings) (doc : Doc) (bodies : ℕ) (meant : Meant) → doc_fits bodies doc ≡ true → IsDeterminate meanings doc → IsWhole meanings doc meant.flow
     → lines (codes "determinate" ∷ sinks_section doc.names (meant_at doc meant) doc.sinks) ≡ check_text meanings doc
 meant_text meanings doc bodies meant fits determined whole =
-    ap (λ ls. lines (codes "determinate" ∷ sinks_line doc.sinks ∷ ls)) (sinks_alike doc.names (meant_at doc meant) (meaning meanings doc) (length doc.shape.nodes) doc.sinks (sinks_within bodies doc fits) (λ n lt. meant-is meanings doc meant n whole lt))
+    ap (λ ls. lines (codes "determinate" ∷ sinks_line doc.sinks ∷ ls)) (sinks_alike doc.shape doc.names (meant_at doc meant) (meaning meanings doc) doc.sinks (and_right _ (list_all (sink_fits doc.shape) doc.sinks) fits) (λ n lt. meant-is meanings doc meant n whole lt))
     ∙ sym (ap (λ r. lines (check_lines meanings doc r)) determined)
 
 -- ---- what is said

@@ -4,3 +4,4 @@ pub mod Built
 pub mod PlainLemmas
 mod GenLemmas
 mod CheckLemmas
+mod MeaningLemmas

@@ -6,15 +6,28 @@ use Rattle.flow_doc.specs.declared.Kept.{Kept}
 use Rattle.flow_doc.specs.declared.DocFault.{DocFault}
 use Rattle.flow_doc.specs.declared.DocFault.TheVariants as D
 use Rattle.flow_doc.specs.Reading.{document}
+use Rattle.flow_body.specs.Laws.{SinglesAnswerOnce}
+use Rattle.flow_mean.specs.Determinate.{IsDeterminate}
 use Rattle.flow_io.specs.Whole.{Took}
 use Rattle.flow_print.specs.declared.status.Status.{Status}
 use Rattle.flow_print.specs.declared.status.Status.TheVariants as S
 use Rattle.flow_print.specs.Faults.{fault_status}
+use Rattle.flow_print.specs.Sinks.{sink_pairs, sinks_section}
 use Rattle.flow_print.specs.Outputs.{Ending, bad_words, unread, no_memory, bad_document, bad_line, output, IsWritten}
 use Rattle.flow_work.specs.Promises.{IsFresh}
 use Rattle.flow_cli.specs.declared.input.TheConstants.{OFFERED}
-use Rattle.flow_cli.specs.Check.{check_text}
+use Rattle.flow_cli.specs.Check.{check_text, meaning_section}
 use Rattle.flow_cli.specs.Plain.{IsRead, IsRefused}
+
+-- ---- what the commands that run a document show
+
+-- Where the document that is kept is determinate, its sinks have what it means; a body that is pure and single has to answer one message.
+abbrev pub ShowsMeaning : Meanings → Kept → Type 0
+ShowsMeaning meanings kept =
+    SinglesAnswerOnce meanings → (doc : Doc) → kept.doc ≡ Some doc → IsDeterminate meanings doc →
+    sinks_section doc.names (sink_pairs doc.shape kept.journal) doc.sinks ≡ meaning_section meanings doc
+
+-- ---- what is kept
 
 -- a document that is kept is that of all bytes of the source, and the words were a line of the command; nothing is run
 pub record KeepsChecked (shelf : List (List ℕ)) (asked : Option ⊤) (before after : Option (List ℕ)) (kept : Kept) : Type 0 where

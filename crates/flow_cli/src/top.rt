@@ -5,7 +5,7 @@ ghost use Rattle.flow_io.specs.Streams.{Rose};
 ghost use Rattle.flow_work.specs.Promises.{IsFresh};
 ghost use Rattle.flow_gen.specs.Generated.{has_bodies};
 ghost use Rattle.flow_cli.specs.Words.{check_asked, command_of, gen_options, plain_options};
-ghost use Rattle.flow_cli.specs.Checked.{IsCheckAnswer};
+ghost use Rattle.flow_cli.specs.Checked.{IsCheckAnswer, ShowsMeaning};
 ghost use Rattle.flow_cli.specs.Gen.{IsGenAnswer};
 ghost use Rattle.flow_cli.specs.Plain.{KeepsDocument, OfRun, IsLegalRun, IsRefusedLast, FollowsCallers, HeedsCallers, AgreesThroughout, IsPrinted, IsCaused, IsDue};
 ghost use Rattle.flow_cli.specs.Steps.{IsAnswer};
@@ -68,6 +68,7 @@ fn plain_line<S: Source, K: Sink>(
     ensures write { result ≡ Status.Write → Rose (K.faults sink.old) (K.faults sink.new) (K.is_full sink.new) }
     ensures complete { (Rose (S.faults source.old) (S.faults source.new) (S.is_full source.new) → ⊥) → (Rose (K.faults sink.old) (K.faults sink.new) (K.is_full sink.new) → ⊥)
         → (result ≡ Status.Memory) ⊎ IsDue (map (λ b. b.name) shelf.now.bodies.items) (plain_options (map string_bytes words.now)) (S.left source.old) result }
+    ensures meaning { result ≡ Status.Done → ShowsMeaning (meanings_of_shelf (λ n. pure (n.body.vtable, n.body.value)) (λ n. single (n.body.vtable, n.body.value)) (λ n. out (n.body.vtable, n.body.value)) shelf.now.bodies.items) kept.new }
 {
     match plain_words(alloc, words) {
         Ok(Some(options)) => run_line(alloc, options, source, sink, shelf, kept),
@@ -107,6 +108,7 @@ pub fn plain_top<S: Source, K: Sink>(
     ensures complete { command_of (map string_bytes words.now) ≡ Command.Plain → (Rose (S.faults source.old) (S.faults source.new) (S.is_full source.new) → ⊥) → (Rose (K.faults sink.old) (K.faults sink.new) (K.is_full sink.new) → ⊥)
         → (result ≡ Status.Memory) ⊎ IsDue (map (λ b. b.name) shelf.now.bodies.items) (plain_options (map string_bytes words.now)) (S.left source.old) result }
     ensures generated { command_of (map string_bytes words.now) ≡ Command.Gen → IsGenAnswer (map (λ b. b.name) shelf.now.bodies.items) (meanings_of_shelf (λ n. pure (n.body.vtable, n.body.value)) (λ n. single (n.body.vtable, n.body.value)) (λ n. out (n.body.vtable, n.body.value)) shelf.now.bodies.items) (gen_options (map string_bytes words.now)) kept.new result (K.written sink.old) (K.written sink.new) }
+    ensures meaning { (command_of (map string_bytes words.now) ≡ Command.Check → ⊥) → result ≡ Status.Done → ShowsMeaning (meanings_of_shelf (λ n. pure (n.body.vtable, n.body.value)) (λ n. single (n.body.vtable, n.body.value)) (λ n. out (n.body.vtable, n.body.value)) shelf.now.bodies.items) kept.new }
     ensures checked { command_of (map string_bytes words.now) ≡ Command.Check → IsCheckAnswer (map (λ b. b.name) shelf.now.bodies.items) (meanings_of_shelf (λ n. pure (n.body.vtable, n.body.value)) (λ n. single (n.body.vtable, n.body.value)) (λ n. out (n.body.vtable, n.body.value)) shelf.now.bodies.items) (check_asked (map string_bytes words.now)) (S.left source.old) (S.left source.new) kept.new result (K.written sink.old) (K.written sink.new) }
     ensures unread { command_of (map string_bytes words.now) ≡ Command.Gen → source.new ≡ source.old }
 {

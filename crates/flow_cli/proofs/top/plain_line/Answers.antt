@@ -1,5 +1,6 @@
 use Rattle.std.proofs.Common.{◌≡◌, Some, map, string_bytes, rules}
 use Rattle.flow_cli.specs.Words.{plain_options}
+use Rattle.flow_cli.proofs.MeaningLemmas.{none_shows, plain_shows}
 use Rattle.flow_cli.proofs.PlainLemmas.{causes, completes}
 use Rattle.flow_cli.proofs.top.plain_line.Goals as goal
 
@@ -37,3 +38,12 @@ pub returns-in-Ok-Some-clause-complete : goal.returns-in-Ok-Some-clause-complete
 returns-in-Ok-Some-clause-complete g c = λ source sink.
     let asked : plain_options (map string_bytes c.args.words.now) ≡ Some c.in-Ok-Some.options = search rules in
     rw asked (completes _ _ _ _ _ _ _ _ _ c.run_line.ensures.answer (λ e. source (c.run_line.ensures.read e)) (λ e. sink (c.run_line.ensures.write e)))
+
+pub returns-in-Ok-Some-clause-meaning : goal.returns-in-Ok-Some-clause-meaning
+returns-in-Ok-Some-clause-meaning g c = plain_shows _ _ _ _ _ _ _ _ _ c.run_line.ensures.answer
+
+pub returns-in-Ok-None-clause-meaning : goal.returns-in-Ok-None-clause-meaning
+returns-in-Ok-None-clause-meaning g c = λ done. none_shows _ _ c.requires.none
+
+pub returns-in-Err-clause-meaning : goal.returns-in-Err-clause-meaning
+returns-in-Err-clause-meaning g c = λ done. none_shows _ _ c.requires.none

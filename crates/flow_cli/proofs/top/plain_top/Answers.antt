@@ -1,6 +1,10 @@
 use Rattle.std.proofs.Common.{rules}
 use Rattle.flow_cli.proofs.GenLemmas.{never_read}
+use Rattle.flow_cli.proofs.MeaningLemmas.{gen_shows}
 use Rattle.flow_cli.proofs.top.plain_top.Goals as goal
 
-pub returns-then-is_named-clause-read : goal.returns-then-is_named-clause-read
-returns-then-is_named-clause-read g c = λ reads. absurd (never_read _ _ _ _ _ _ _ c.gen_line.ensures.answer reads)
+pub returns-in-Gen-clause-read : goal.returns-in-Gen-clause-read
+returns-in-Gen-clause-read g c = λ reads. absurd (never_read _ _ _ _ _ _ _ c.gen_line.ensures.answer reads)
+
+pub returns-in-Gen-clause-meaning : goal.returns-in-Gen-clause-meaning
+returns-in-Gen-clause-meaning g c = λ other done. gen_shows _ _ _ _ _ _ _ c.gen_line.ensures.answer done
