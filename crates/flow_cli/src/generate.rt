@@ -101,6 +101,28 @@ fn print_summary<K: Sink>(
     }
 }
 
+// Writes the summary, with the items of the nodes brought in print order first, since a sequencer whose items lie in no
+// order looks at all of them for each of them.
+fn print_arranged<K: Sink>(
+    alloc: Global,
+    count: u32,
+    kept: &Kept,
+    mut nodes: Nodes,
+    sink: &mut K,
+) -> Status
+    requires whole { HasRun kept.now }
+    requires few { births kept.now.journal ≤ 2 ^ 63 }
+    requires states { AreStates kept.now.doc kept.now.journal nodes }
+    ensures ended { IsEnded (summary_ending count kept.now.doc kept.now.journal) result (K.written sink.old) (K.written sink.new) }
+    ensures sent { (result ≡ Status.Write → ⊥) → K.is_sent sink.new ≡ true }
+    ensures cause { result ≡ Status.Write → Rose (K.faults sink.old) (K.faults sink.new) (K.is_full sink.new) }
+{
+    match nodes.arrange() {
+        Ok(()) => print_summary(alloc, count, kept, &nodes, sink),
+        Err(_) => tell_no_memory(sink),
+    }
+}
+
 // Runs the document of a number and writes the summary.
 fn print_run<K: Sink>(
     alloc: Global,
@@ -119,7 +141,7 @@ fn print_run<K: Sink>(
     ensures cause { result ≡ Status.Write → Rose (K.faults sink.old) (K.faults sink.new) (K.is_full sink.new) }
 {
     match run_generated(alloc, count, shelf, kept) {
-        Ok(nodes) => print_summary(alloc, count, kept, &nodes, sink),
+        Ok(nodes) => print_arranged(alloc, count, kept, nodes, sink),
         Err(_) => tell_no_memory(sink),
     }
 }
