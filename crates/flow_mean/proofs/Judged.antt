@@ -1,7 +1,10 @@
 -- The rules in two groups, and what it tells that none of the first fails.
 use Rattle.std.proofs.Common.{◌≡◌, ℕ, zero, suc, ◌+◌, ◌<◌, ◌≤◌, Bool, true, false, not, ◌&&◌, cond, Option, Some, None, List, [], ◌∷◌, length, refl, sym, ap, ◌∙◌, arith}
-use Rattle.std.specs.Prelude.{slice_get, Result, Ok, Err, ⊤}
-use Rattle.std.specs.List.{list_any}
+use Rattle.std.specs.Prelude.{is_none, slice_get, Result, Ok, Err, ⊤}
+use Rattle.std.specs.List.{list_all, list_any}
+use Rattle.flow_item.proofs.Tests.{and_left, and_right}
+use Rattle.flow_shape.specs.Rules.{IsValid, first_fault}
+use Rattle.flow_doc.specs.Fits.{doc_fits, kind_fits}
 use Rattle.flow_item.specs.Lists.{first, has}
 use Rattle.flow_item.proofs.Places.{slice_get-below}
 use Rattle.flow_shape.specs.declared.Kind.{Kind}
@@ -102,3 +105,15 @@ module _ (meanings : Meanings) (doc : Doc) where
         acyclic = λ n less. let there = slice_get-below doc.shape.nodes n less in none-where (λ n k. is_on_cycle doc.shape n) 0 n n doc.shape.nodes there.0 (none-least N2 _ b.0) (omega arith) there.1;
         tied = λ n k at. none-where (has_loose_body meanings doc) 0 n n doc.shape.nodes k (none-least N5 _ d.1) (omega arith) at;
       }
+
+-- ---- a document that fits
+
+none-is : {X : Type 0} (o : Option X) → is_none o ≡ true → o ≡ None
+none-is None h = refl
+none-is (Some x) h = cc
+
+pub fits-valid : (n : ℕ) (doc : Doc) → doc_fits n doc ≡ true → IsValid doc.shape
+fits-valid n doc h = none-is (first_fault doc.shape) (and_left _ _ (and_left _ _ (and_left _ _ (and_left _ _ (and_left _ _ h)))))
+
+pub fits-kinds : (n : ℕ) (doc : Doc) → doc_fits n doc ≡ true → list_all (kind_fits n) doc.shape.nodes ≡ true
+fits-kinds n doc h = and_right _ _ (and_left _ _ (and_left _ _ (and_left _ _ h)))

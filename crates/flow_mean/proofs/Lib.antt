@@ -12,3 +12,10 @@ pub mod Values
 pub mod Leaving
 pub mod Bodies
 pub mod Least
+pub mod Gaps
+pub mod Tuples
+pub mod Brought
+pub mod Walked
+pub mod ByKind
+pub mod Reversed
+pub mod Messages
