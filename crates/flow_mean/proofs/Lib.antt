@@ -5,7 +5,7 @@ pub mod Steady
 pub mod Tidied
 pub mod Sorted
 pub mod Reached
-pub mod Judged
+pub mod Grouped
 pub mod Visited
 pub mod Ordered
 pub mod Values
@@ -19,3 +19,4 @@ pub mod Walked
 pub mod ByKind
 pub mod Reversed
 pub mod Messages
+pub mod Searched

@@ -22,7 +22,7 @@ use Rattle.flow_mean.specs.Meaning.{put_to, is_sequencer, through, passed_by, pa
 use Rattle.flow_mean.specs.Determinate.{is_orderly, repeats_tag}
 use Rattle.flow_mean.specs.Passing.{AreSources, brought, brought_to, maps_at, repeats_at, kept_by, HasSizes, Knows, Passes, IsFound, Awaits}
 use Rattle.flow_mean.proofs.Steady.{into-same, passes-steady}
-use Rattle.flow_mean.proofs.Judged.{Early}
+use Rattle.flow_mean.proofs.Grouped.{Early}
 
 -- ---- lists
 

@@ -29,9 +29,10 @@ use Rattle.flow_doc.specs.Fits.{kind_fits}
 use Rattle.flow_mean.specs.Determinate.{is_orderly, has_loose_body}
 use Rattle.flow_mean.specs.Judging.{has_free_body, AreOuts}
 use Rattle.flow_mean.specs.Passing.{ArePuts, AreSources, Rising, brought_to, maps_at, repeats_at, kept_by, HasSizes, Knows, Passes, IsFound, Awaits, IsTidy}
-use Rattle.flow_mean.specs.Whole.{IsWhole}
+use Rattle.flow_mean.specs.Whole.{IsWhole, meant_at}
+use Rattle.flow_mean.specs.declared.judge.Meant.{Meant}
 use Rattle.flow_mean.specs.declared.flow.Flow.{Flow}
-use Rattle.flow_mean.proofs.Judged.{Early, early-none}
+use Rattle.flow_mean.proofs.Grouped.{Early, early-none}
 use Rattle.flow_mean.proofs.Visited.{orderly-ports, found-ends, found-gives, visited}
 use Rattle.flow_mean.proofs.Reached.{no-cycle-left}
 use Rattle.flow_mean.proofs.Rising.{map_of-rises}
@@ -215,3 +216,7 @@ lent-all len now old h same =
     let none : length old ≤ length now = omega (arith, same) in
     let most : length now ≤ len = omega (arith, same, h) in
     ap (λ (l : List _). take len (now ++ l)) (drop_all (length now) old none) ∙ ap (take len) (append-nil now) ∙ take_all len now most
+
+-- what is shown of a node is its meaning
+pub meant-is : (meanings : Meanings) (doc : Doc) (meant : Meant) (n : ℕ) → IsWhole meanings doc meant.flow → n < length doc.shape.nodes → meant_at doc meant n ≡ meaning meanings doc n
+meant-is meanings doc meant n whole less = meaning-of meanings doc meant.flow n (is_shown_at meanings doc n) (meant_at doc meant n) whole less refl refl

@@ -1,6 +1,6 @@
-use Rattle.std.proofs.Common.{length, arith, ◌∙◌}
+use Rattle.std.proofs.Common.{◌≡◌, ◌<◌, ℕ, length, arith, ◌∙◌}
 use Rattle.flow_body.specs.Shelves.{meanings_of_shelf}
-use Rattle.flow_mean.proofs.Judged.{fits-valid, fits-kinds, determinate-tidy}
+use Rattle.flow_mean.proofs.Grouped.{fits-valid, fits-kinds, determinate-tidy}
 use Rattle.flow_mean.proofs.Walked.{meaning-of}
 use Rattle.flow_mean.proofs.judge.meaning.Goals as goal
 
@@ -24,4 +24,4 @@ take_pairs-requires-clause-kept g c = omega (arith, c.requires.within, c.in_ok-f
 pub returns : goal.returns
 returns g c =
     let meanings = meanings_of_shelf (λ n. (goal.Body-dyn g (n.body.vtable, n.body.value)).pure n.body.value) (λ n. (goal.Body-dyn g (n.body.vtable, n.body.value)).single n.body.value) (λ n. (goal.Body-dyn g (n.body.vtable, n.body.value)).out n.body.value) c.args.shelf.now.bodies.items in
-    c.of.ensures ∙ meaning-of meanings c.args.doc.now c.in_ok-flow.flow c.args.node c.is_shown-shown.result c.take_pairs.result c.in_ok-flow.ensures c.requires.within (c.is_shown-shown.ensures meanings) c.take_pairs.ensures
+    c.of.ensures ∙ meaning-of meanings c.args.doc.now c.in_ok-flow.flow c.args.node c.is_shown-shown.result c.take_pairs.result c.in_ok-flow.ensures c.requires.within c.is_shown-shown.ensures c.take_pairs.ensures

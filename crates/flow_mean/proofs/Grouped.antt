@@ -1,5 +1,5 @@
 -- The rules in two groups, and what it tells that none of the first fails.
-use Rattle.std.proofs.Common.{◌≡◌, ℕ, zero, suc, ◌+◌, ◌<◌, ◌≤◌, Bool, true, false, not, ◌&&◌, cond, Option, Some, None, List, [], ◌∷◌, length, refl, sym, ap, ◌∙◌, arith}
+use Rattle.std.proofs.Common.{◌≡◌, ℕ, zero, suc, ◌+◌, ◌<◌, Bool, true, false, not, ◌&&◌, cond, Option, Some, None, List, [], ◌∷◌, length, refl, sym, ap, subst, ◌∙◌, arith}
 use Rattle.std.specs.Prelude.{is_none, slice_get, Result, Ok, Err, ⊤}
 use Rattle.std.specs.List.{list_all, list_any}
 use Rattle.flow_item.proofs.Tests.{and_left, and_right}
@@ -15,10 +15,13 @@ use Rattle.flow_doc.specs.Fields.{◌>>=◌}
 use Rattle.flow_mean.specs.declared.LooseRule.{LooseRule}
 use Rattle.flow_mean.specs.declared.LooseRule.TheVariants.{N1, N2, N3, N4, N5, N6, N7, N8}
 use Rattle.flow_mean.specs.declared.Loose.{Loose}
+use Rattle.flow_mean.specs.declared.MeanFault.{MeanFault}
 use Rattle.flow_mean.specs.declared.MeanFault.TheVariants as M
 use Rattle.flow_mean.specs.Meaning.{is_sequencer}
 use Rattle.flow_mean.specs.Determinate.{is_orderly, is_function, is_cancel, is_on_cycle, nodes_where, holds, has_several_out_edges, may_lose, has_loose_body, repeats_tag, determinate, IsDeterminate}
-use Rattle.flow_mean.specs.Judging.{Judges, loose_at, or_else, least, early, late}
+use Rattle.flow_mean.specs.Judging.{AreRepeats, Judges, loose_at, or_else, least, early, late}
+use Rattle.flow_mean.specs.declared.flow.Flow.{Flow}
+use Rattle.flow_mean.specs.Whole.{IsWhole, Finds}
 use Rattle.flow_mean.proofs.Tidied.{none-where}
 
 -- the answer that an optional fault is
@@ -117,3 +120,22 @@ fits-valid n doc h = none-is (first_fault doc.shape) (and_left _ _ (and_left _ _
 
 pub fits-kinds : (n : ℕ) (doc : Doc) → doc_fits n doc ≡ true → list_all (kind_fits n) doc.shape.nodes ≡ true
 fits-kinds n doc h = and_right _ _ (and_left _ _ (and_left _ _ (and_left _ _ h)))
+
+-- the answers to the rules that look at tags or callers, one after the other
+pub late-from : (meanings : Meanings) (doc : Doc) (flow : Flow) (marks : List Bool) (o s t : Option ℕ) (x y z p q : Option Loose) → IsWhole meanings doc flow → marks ≡ flow.repeats.items
+    → ((m : Meanings) → AreRepeats m doc marks → o ≡ least doc (repeats_tag m doc)) → x ≡ loose_at N6 o
+    → s ≡ least doc (λ n k. has doc.sinks n && not (is_sequencer k)) → y ≡ loose_at N7 s
+    → t ≡ least doc (λ n k. is_function k && list_any (list_any is_cancel) doc.scripts) → z ≡ loose_at N8 t
+    → p ≡ or_else y z → q ≡ or_else x p → q ≡ late meanings doc
+late-from meanings doc flow marks o s t x y z p q whole same repeat xo sink ys cancel zt pq qq =
+    let first_repeat : o ≡ least doc (repeats_tag meanings doc) = repeat meanings (subst (AreRepeats meanings doc) (sym same) whole.tells) in
+    let six : x ≡ loose_at N6 (least doc (repeats_tag meanings doc)) = xo ∙ ap (loose_at N6) first_repeat in
+    let seven : y ≡ loose_at N7 (least doc (λ n k. has doc.sinks n && not (is_sequencer k))) = ys ∙ ap (loose_at N7) sink in
+    let eight : z ≡ loose_at N8 (least doc (λ n k. is_function k && list_any (list_any is_cancel) doc.scripts)) = zt ∙ ap (loose_at N8) cancel in
+    qq ∙ ap (λ (w : Option Loose). or_else x w) pq ∙ ap (λ (w : Option Loose). or_else w (or_else y z)) six
+    ∙ ap (λ (w : Option Loose). or_else (loose_at N6 (least doc (repeats_tag meanings doc))) (or_else w z)) seven
+    ∙ ap (λ (w : Option Loose). or_else (loose_at N6 (least doc (repeats_tag meanings doc))) (or_else (loose_at N7 (least doc (λ n k. has doc.sinks n && not (is_sequencer k)))) w)) eight
+
+pub found-judges : (meanings : Meanings) (doc : Doc) (fault : MeanFault) → Finds meanings doc (Err fault) → Judges (determinate meanings doc) (Err fault)
+found-judges meanings doc (M.Loose f) h = h
+found-judges meanings doc M.Memory h = tt
