@@ -22,7 +22,9 @@ use Rattle.flow_doc.specs.Reading.{document}
 use Rattle.flow_mean.specs.declared.Loose.{Loose}
 use Rattle.flow_mean.specs.declared.judge.Meant.{Meant}
 use Rattle.flow_mean.specs.Meaning.{meaning}
-use Rattle.flow_mean.specs.Whole.{IsWhole, meant_at}
+use Rattle.flow_mean.specs.Whole.{Finds, IsWhole, meant_at}
+use Rattle.flow_mean.specs.declared.MeanFault.{MeanFault}
+use Rattle.flow_mean.specs.declared.MeanFault.TheVariants as M
 use Rattle.flow_mean.proofs.Walked.{meant-is}
 use Rattle.flow_mean.specs.Determinate.{determinate, IsDeterminate}
 use Rattle.flow_loop.specs.declared.WildRule.{WildRule}
@@ -79,6 +81,9 @@ loose_text_is meanings doc loose built fails =
     ∙ ap (λ r. lines (unless_tamed meanings doc loose r)) wild
     ∙ append-nil (with_newline (loose_line loose))
 
+pub found_loose : (meanings : Meanings) (doc : Doc) (found : Result Meant MeanFault) (loose : Loose) → found ≡ Err (M.Loose loose) → Finds meanings doc found → determinate meanings doc ≡ Err loose
+found_loose meanings doc found loose is finds = subst (λ (r : Result Meant MeanFault). Finds meanings doc r) is finds
+
 -- ---- the meaning
 
 -- a sink is a node
@@ -114,6 +119,10 @@ ended_loose text told status old new same said = record { last = output S.Done t
 
 pub ended_no_memory : (ending : Ending) (status : Status) (old new : Option (List ℕ)) → IsSaid memory_text S.Memory status old new → IsEnded ending status old new
 ended_no_memory ending status old new said = record { last = no_memory; is = inr refl; written = says_memory status old new said }
+
+-- nothing was written before
+pub no_memory_after : (ending : Ending) (status : Status) (old mid new : Option (List ℕ)) → mid ≡ old → IsSaid memory_text S.Memory status mid new → IsEnded ending status old new
+no_memory_after ending status old mid new same said = ended_no_memory ending status old new (subst (λ (o : Option (List ℕ)). IsSaid memory_text S.Memory status o new) same said)
 
 pub ended_as : (text other : List ℕ) (status : Status) (old new : Option (List ℕ)) → text ≡ other → IsEnded (output S.Done text) status old new → IsEnded (output S.Done other) status old new
 ended_as text other status old new same e = subst (λ (t : List ℕ). IsEnded (output S.Done t) status old new) same e

@@ -1,5 +1,5 @@
 -- What a whole run of a determinate document shows.
-use Rattle.std.proofs.Common.{◌≡◌, ℕ, zero, suc, ◌+◌, Bool, true, ◌&&◌, nat_eq, Option, Some, None, List, [], ◌∷◌, length, slice_get, refl, sym, ap, ◌∙◌, subst, arith, eq-eqb}
+use Rattle.std.proofs.Common.{◌≡◌, ℕ, zero, suc, ◌+◌, Bool, true, false, ◌&&◌, nat_eq, Option, Some, None, Ok, List, [], ◌∷◌, length, slice_get, refl, sym, ap, ◌∙◌, subst, arith, eq-eqb}
 use Rattle.std.specs.Prelude.{IfSome}
 use Rattle.flow_item.specs.declared.event.Event.{Event}
 use Rattle.flow_item.specs.declared.val.Val.{Val}
@@ -85,13 +85,13 @@ plain_shows shelf meanings options before after kept status old new answer same 
     read_of None d p r = cc
     read_of (Some x) d p r = let e : x ≡ d = cc in subst (λ (y : Doc). IsRead shelf before after (Ok y)) e r
 
+pub unlike_none : (o : Option Doc) (doc : Doc) → o ≡ None → o ≡ Some doc → ⊥
+unlike_none None doc p q = cc
+unlike_none (Some d) doc p q = cc
+
 -- without a document there is nothing to show
-pub none_shows : (meanings : Meanings) (kept : Kept) → kept.doc ≡ None → ShowsMeaning meanings kept
-none_shows meanings kept none singles doc is determined = absurd (unlike kept.doc none is)
-  where
-    unlike : (o : Option Doc) → o ≡ None → o ≡ Some doc → ⊥
-    unlike None p q = cc
-    unlike (Some d) p q = cc
+none_shows : (meanings : Meanings) (kept : Kept) → kept.doc ≡ None → ShowsMeaning meanings kept
+none_shows meanings kept none singles doc is determined = absurd (unlike_none kept.doc doc none is)
 
 -- what the command `gen` leaves shows it
 pub gen_shows : (shelf : List (List ℕ)) (meanings : Meanings) (asked : Option Generating) (kept : Kept) (status : Status) (old new : Option (List ℕ)) → IsGenAnswer shelf meanings asked kept status old new → status ≡ S.Done → ShowsMeaning meanings kept

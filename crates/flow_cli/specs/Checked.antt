@@ -81,8 +81,8 @@ IsCheckDue shelf (Some x) None status = ⊤
 IsCheckDue shelf (Some x) (Some bytes) status = status ≡ due_status (document OFFERED shelf bytes)
 
 -- all that the command leaves
-pub record IsCheckAnswer (shelf : List (List ℕ)) (meanings : Meanings) (asked : Option ⊤) (before after : Option (List ℕ)) (kept : Kept) (status : Status) (old new : Option (List ℕ)) : Type 0 where
-  pub kept : KeepsChecked shelf asked before after kept
-  pub printed : IsCheckPrinted shelf meanings asked before after kept status old new
-  pub cause : IsCheckCaused shelf status asked before after kept
+pub record IsCheckAnswer (shelf : List (List ℕ)) (meanings : Meanings) (asked : Option ⊤) (before after : Option (List ℕ)) (left : Kept) (status : Status) (old new : Option (List ℕ)) : Type 0 where
+  pub kept : KeepsChecked shelf asked before after left
+  pub printed : IsCheckPrinted shelf meanings asked before after left status old new
+  pub cause : IsCheckCaused shelf status asked before after left
   pub complete : (status ≡ S.Read → ⊥) → (status ≡ S.Write → ⊥) → (status ≡ S.Memory) ⊎ IsCheckDue shelf asked before status

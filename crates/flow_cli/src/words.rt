@@ -73,6 +73,13 @@ fn gen_command<'a>(alloc: Global) -> Result<Line<'a>, AllocError>
     Line::new(alloc, "gen").arg(count)?.arg(text)
 }
 
+// The command `check`, without options.
+fn check_command<'a>(alloc: Global) -> Line<'a>
+    ensures { app_of result ≡ check_app }
+{
+    Line::new(alloc, "check")
+}
+
 // The number that a text tells.
 fn count_of(text: &str) -> u32
     ensures { result ≡ count_of text.now }
@@ -191,9 +198,12 @@ pub fn check_words(alloc: Global, words: &[String]) -> Result<Option<()>, NoMemo
     if !is_named(words, "check") {
         return Ok(None);
     }
-    let command = Line::new(alloc, "check");
+    let command = check_command(alloc);
     match command.try_get_matches_from(words) {
-        Ok(_) => Ok(Some(())),
+        Ok(matches) => {
+            let _ = matches;
+            Ok(Some(()))
+        }
         Err(error) => match error.kind() {
             ErrorKind::OutOfMemory => Err(NoMemory),
             _ => Ok(None),

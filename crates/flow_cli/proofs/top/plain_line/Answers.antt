@@ -1,6 +1,6 @@
 use Rattle.std.proofs.Common.{◌≡◌, Some, map, string_bytes, rules}
 use Rattle.flow_cli.specs.Words.{plain_options}
-use Rattle.flow_cli.proofs.MeaningLemmas.{none_shows, plain_shows}
+use Rattle.flow_cli.proofs.MeaningLemmas.{unlike_none, plain_shows}
 use Rattle.flow_cli.proofs.PlainLemmas.{causes, completes}
 use Rattle.flow_cli.proofs.top.plain_line.Goals as goal
 
@@ -43,7 +43,7 @@ pub returns-in-Ok-Some-clause-meaning : goal.returns-in-Ok-Some-clause-meaning
 returns-in-Ok-Some-clause-meaning g c = plain_shows _ _ _ _ _ _ _ _ _ c.run_line.ensures.answer
 
 pub returns-in-Ok-None-clause-meaning : goal.returns-in-Ok-None-clause-meaning
-returns-in-Ok-None-clause-meaning g c = λ done. none_shows _ _ c.requires.none
+returns-in-Ok-None-clause-meaning g c = λ done singles doc is determined. absurd (unlike_none _ _ c.requires.none is)
 
 pub returns-in-Err-clause-meaning : goal.returns-in-Err-clause-meaning
-returns-in-Err-clause-meaning g c = λ done. none_shows _ _ c.requires.none
+returns-in-Err-clause-meaning g c = λ done singles doc is determined. absurd (unlike_none _ _ c.requires.none is)
