@@ -15,13 +15,12 @@ use Rattle.flow_doc.specs.Fields.{◌>>=◌}
 use Rattle.flow_mean.specs.declared.LooseRule.{LooseRule}
 use Rattle.flow_mean.specs.declared.LooseRule.TheVariants.{N1, N2, N3, N4, N5, N6, N7, N8}
 use Rattle.flow_mean.specs.declared.Loose.{Loose}
-use Rattle.flow_mean.specs.declared.MeanFault.{MeanFault}
 use Rattle.flow_mean.specs.declared.MeanFault.TheVariants as M
 use Rattle.flow_mean.specs.Meaning.{is_sequencer}
 use Rattle.flow_mean.specs.Determinate.{is_orderly, is_function, is_cancel, is_on_cycle, nodes_where, holds, has_several_out_edges, may_lose, has_loose_body, repeats_tag, determinate, IsDeterminate}
 use Rattle.flow_mean.specs.Judging.{AreRepeats, Judges, loose_at, or_else, least, early, late}
 use Rattle.flow_mean.specs.declared.flow.Flow.{Flow}
-use Rattle.flow_mean.specs.Whole.{IsWhole, Finds}
+use Rattle.flow_mean.specs.Whole.{IsWhole}
 use Rattle.flow_mean.proofs.Tidied.{none-where}
 
 -- the answer that an optional fault is
@@ -135,7 +134,3 @@ late-from meanings doc flow marks o s t x y z p q whole same repeat xo sink ys c
     qq ∙ ap (λ (w : Option Loose). or_else x w) pq ∙ ap (λ (w : Option Loose). or_else w (or_else y z)) six
     ∙ ap (λ (w : Option Loose). or_else (loose_at N6 (least doc (repeats_tag meanings doc))) (or_else w z)) seven
     ∙ ap (λ (w : Option Loose). or_else (loose_at N6 (least doc (repeats_tag meanings doc))) (or_else (loose_at N7 (least doc (λ n k. has doc.sinks n && not (is_sequencer k)))) w)) eight
-
-pub found-judges : (meanings : Meanings) (doc : Doc) (fault : MeanFault) → Finds meanings doc (Err fault) → Judges (determinate meanings doc) (Err fault)
-found-judges meanings doc (M.Loose f) h = h
-found-judges meanings doc M.Memory h = tt
