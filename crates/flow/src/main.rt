@@ -1,4 +1,5 @@
-//! Runs message graphs: `flow plain < DOCUMENT` prints the report of the document's run on one thread.
+//! Runs message graphs: `flow plain < DOCUMENT` prints the report of the document's run on one thread, and `flow gen N` the
+//! summary of the run of a document of N numbers.
 #![tactic(auto)]
 
 use flow_body::{

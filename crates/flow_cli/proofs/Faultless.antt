@@ -19,7 +19,7 @@ use Rattle.clap.specs.declared.builder.value_parser.ValueParser.{ValueParser}
 use Rattle.clap.specs.declared.error.kind.ErrorKind.{ErrorKind}
 use Rattle.clap.specs.declared.error.kind.ErrorKind.TheVariants as kind
 use Rattle.clap.proofs.OnLiterals.{clap_on_literals}
-use Rattle.flow_cli.specs.Words.{plain_app}
+use Rattle.flow_cli.specs.Words.{plain_app, gen_app, check_app}
 
 -- ---- kinds
 
@@ -214,45 +214,105 @@ module _ (s : Shape) (names : Names) where
       let both = or_none (F.turn_fault s names w word) (F.walk_fault s names (walked s.rules names w word) rest) f in
       both_true _ _ (turn_ok w word both.0) (walk_ok (walked s.rules names w word) rest both.1)
 
+-- ---- a command
+
+module _ (app : App) (simple : is_simple app ≡ true) (defaults : list_all T.default_passes (built app).top.rules ≡ true)
+    (checked : (rows : List Row) (has : Bool) → F.check_fault (built app).top rows has ≡ [] → T.is_valid (built app).top rows has ≡ true) (words : List Text) where
+  abbrev top : Shape
+  top = (built app).top
+
+  abbrev rest : List Text
+  rest = argument_words app words
+
+  abbrev names : Names
+  names = names_of (built app)
+
+  abbrev end : Held
+  end = (walk top.rules names nothing_held rest).held
+
+  abbrev stop : Option (Text × List Text)
+  stop = (walk top.rules names nothing_held rest).stopped
+
+  pub taken : ((o : Option (Text × List Text)) → T.entered_passes (built app) o ≡ true) → F.fault_of app words ≡ [] → T.takes app words ≡ true
+  taken by_entry f = both_true (is_simple app) _ simple (both_true (T.entered_passes (built app) stop) _ (by_entry stop) (both_true _ _ (walk_ok top names (walk_from nothing_held) rest walked_none.0) (both_true _ _ (settle_ok top.rules top.args_override_self end settled_none.0) (both_true _ _ defaults (checked (finished top.rules end) (is_some (entered (built app) stop)) checked_none)))))
+    where
+      walked_none : (F.walk_fault top names (walk_from nothing_held) rest ≡ []) × (or_else (F.entered_fault (built app) stop) (or_else (F.settle_fault top.rules top.args_override_self end) (or_else (F.defaults_fault (settled top.rules end).rows top.rules) (F.check_fault top (finished top.rules end) (is_some (entered (built app) stop))))) ≡ [])
+      walked_none = or_none _ _ f
+
+      settled_none : (F.settle_fault top.rules top.args_override_self end ≡ []) × (or_else (F.defaults_fault (settled top.rules end).rows top.rules) (F.check_fault top (finished top.rules end) (is_some (entered (built app) stop))) ≡ [])
+      settled_none = or_none _ _ (or_none (F.entered_fault (built app) stop) _ walked_none.1).1
+
+      checked_none : F.check_fault top (finished top.rules end) (is_some (entered (built app) stop)) ≡ []
+      checked_none = (or_none (F.defaults_fault (settled top.rules end).rows top.rules) _ settled_none.1).1
+
 -- ---- the command `plain`
 
-abbrev top : Shape
-top = (built plain_app).top
-
-defaults_ok : list_all T.default_passes top.rules ≡ true
+defaults_plain : list_all T.default_passes (built plain_app).top.rules ≡ true
 unfolding clap_on_literals
-defaults_ok = refl
+defaults_plain = refl
 
-valid : (rows : List Row) (has : Bool) → T.is_valid top rows has ≡ true
+checked_plain : (rows : List Row) (has : Bool) → F.check_fault (built plain_app).top rows has ≡ [] → T.is_valid (built plain_app).top rows has ≡ true
 unfolding clap_on_literals
-valid rows true = refl
-valid rows false = refl
+checked_plain rows true f = refl
+checked_plain rows false f = refl
 
-is_simple_app : is_simple plain_app ≡ true
+simple_plain : is_simple plain_app ≡ true
 unfolding clap_on_literals
-is_simple_app = refl
+simple_plain = refl
+
+entered_plain : (o : Option (Text × List Text)) → T.entered_passes (built plain_app) o ≡ true
+entered_plain None = refl
+entered_plain (Some p) = refl
 
 pub faultless : (words : List Text) → F.fault_of plain_app words ≡ [] → T.takes plain_app words ≡ true
-faultless words f = both_true (is_simple plain_app) _ is_simple_app (both_true (T.entered_passes (built plain_app) stop) _ (by_entry stop) (both_true _ _ (walk_ok top names (walk_from nothing_held) rest walked_none.0) (both_true _ _ (settle_ok top.rules top.args_override_self end settled_none.0) (both_true _ _ defaults_ok (valid (finished top.rules end) (is_some (entered (built plain_app) stop)))))))
+faultless words f = taken plain_app simple_plain defaults_plain checked_plain words entered_plain f
+
+-- ---- the command `gen`
+
+defaults_gen : list_all T.default_passes (built gen_app).top.rules ≡ true
+unfolding clap_on_literals
+defaults_gen = refl
+
+-- its number has to be there
+checked_gen : (rows : List Row) (has : Bool) → F.check_fault (built gen_app).top rows has ≡ [] → T.is_valid (built gen_app).top rows has ≡ true
+unfolding clap_on_literals
+checked_gen rows has f = by_given has (T.is_given (codes "count") rows) f
   where
-    rest : List Text
-    rest = argument_words (built plain_app) words
+    by_given : (has given : Bool) → cond (not has && false) (kind.DisplayHelpOnMissingArgumentOrSubcommand ∷ []) (cond (not has && false) (kind.MissingSubcommand ∷ []) (cond (not (false && has) && (not given || false)) (kind.MissingRequiredArgument ∷ []) [])) ≡ [] → ((false && has) || (given && true)) ≡ true
+    by_given true true f = refl
+    by_given false true f = refl
+    by_given true false f = cc
+    by_given false false f = cc
 
-    names : Names
-    names = names_of (built plain_app)
+simple_gen : is_simple gen_app ≡ true
+unfolding clap_on_literals
+simple_gen = refl
 
-    end : Held
-    end = (walk top.rules names nothing_held rest).held
+entered_gen : (o : Option (Text × List Text)) → T.entered_passes (built gen_app) o ≡ true
+entered_gen None = refl
+entered_gen (Some p) = refl
 
-    stop : Option (Text × List Text)
-    stop = (walk top.rules names nothing_held rest).stopped
+pub faultless_gen : (words : List Text) → F.fault_of gen_app words ≡ [] → T.takes gen_app words ≡ true
+faultless_gen words f = taken gen_app simple_gen defaults_gen checked_gen words entered_gen f
 
-    by_entry : (o : Option (Text × List Text)) → T.entered_passes (built plain_app) o ≡ true
-    by_entry None = refl
-    by_entry (Some p) = refl
+-- ---- the command `check`
 
-    walked_none : (F.walk_fault top names (walk_from nothing_held) rest ≡ []) × (or_else (F.entered_fault (built plain_app) stop) (or_else (F.settle_fault top.rules top.args_override_self end) (or_else (F.defaults_fault (settled top.rules end).rows top.rules) (F.check_fault top (finished top.rules end) (is_some (entered (built plain_app) stop))))) ≡ [])
-    walked_none = or_none _ _ f
+defaults_check : list_all T.default_passes (built check_app).top.rules ≡ true
+unfolding clap_on_literals
+defaults_check = refl
 
-    settled_none : (F.settle_fault top.rules top.args_override_self end ≡ []) × (or_else (F.defaults_fault (settled top.rules end).rows top.rules) (F.check_fault top (finished top.rules end) (is_some (entered (built plain_app) stop))) ≡ [])
-    settled_none = or_none _ _ (or_none (F.entered_fault (built plain_app) stop) _ walked_none.1).1
+checked_check : (rows : List Row) (has : Bool) → F.check_fault (built check_app).top rows has ≡ [] → T.is_valid (built check_app).top rows has ≡ true
+unfolding clap_on_literals
+checked_check rows true f = refl
+checked_check rows false f = refl
+
+simple_check : is_simple check_app ≡ true
+unfolding clap_on_literals
+simple_check = refl
+
+entered_check : (o : Option (Text × List Text)) → T.entered_passes (built check_app) o ≡ true
+entered_check None = refl
+entered_check (Some p) = refl
+
+pub faultless_check : (words : List Text) → F.fault_of check_app words ≡ [] → T.takes check_app words ≡ true
+faultless_check words f = taken check_app simple_check defaults_check checked_check words entered_check f

@@ -2,3 +2,6 @@ pub mod Faultless
 pub mod WordLemmas
 pub mod Built
 pub mod PlainLemmas
+mod GenLemmas
+mod CheckLemmas
+mod MeaningLemmas

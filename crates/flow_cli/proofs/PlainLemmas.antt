@@ -144,7 +144,7 @@ ended_fault (D.Shape fault) status old new e = e
 -- ---- statuses
 
 -- writing failed, memory ran out, or the status is the ending's
-status_of : (ending : Ending) (status : Status) (old new : Option (List ℕ)) → IsWritten ending status old new → (status ≡ S.Write) ⊎ ((status ≡ S.Memory) ⊎ (status ≡ ending_status ending))
+pub status_of : (ending : Ending) (status : Status) (old new : Option (List ℕ)) → IsWritten ending status old new → (status ≡ S.Write) ⊎ ((status ≡ S.Memory) ⊎ (status ≡ ending_status ending))
 status_of ending S.Write old new h = inl refl
 status_of ending S.Memory old new h = inr (inl refl)
 status_of ending status old new h = inr (inr h.0)
@@ -179,7 +179,7 @@ module _ (shelf : List (List ℕ)) (meanings : Meanings) (asked : Option Options
 
   -- ---- the other way round
 
-  all_read : (all bytes : List ℕ) (read : Result Doc DocFault) → Gives (Some all) bytes after → IsAtEnd after → document OFFERED shelf bytes ≡ read → document OFFERED shelf all ≡ read
+  pub all_read : (all bytes : List ℕ) (read : Result Doc DocFault) → Gives (Some all) bytes after → IsAtEnd after → document OFFERED shelf bytes ≡ read → document OFFERED shelf all ≡ read
   all_read all bytes read gives end is = by_rest after gives end
     where
       by_rest : (rest : Option (List ℕ)) → Gives (Some all) bytes rest → IsAtEnd rest → document OFFERED shelf all ≡ read
@@ -196,7 +196,7 @@ module _ (shelf : List (List ℕ)) (meanings : Meanings) (asked : Option Options
       by_rest None g = absurd g
       by_rest (Some rest) g = rw g (too_long shelf (taken ++ rest) (more rest))
 
-  refused_all : (all : List ℕ) (fault : DocFault) → IsRefused shelf (Some all) after fault → document OFFERED shelf all ≡ Err fault
+  pub refused_all : (all : List ℕ) (fault : DocFault) → IsRefused shelf (Some all) after fault → document OFFERED shelf all ≡ Err fault
   refused_all all D.TooLong took = too_many all took.0 took.1 took.2
   refused_all all D.Syntax r = all_read all r.bytes (Err D.Syntax) r.taken r.whole r.is
   refused_all all (D.Place path want) r = all_read all r.bytes (Err (D.Place path want)) r.taken r.whole r.is

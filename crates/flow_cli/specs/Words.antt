@@ -1,5 +1,5 @@
 -- The words of a command line, by what clap makes of them.
-use Rattle.std.specs.Prelude.{ℕ, Bool, true, false, ◌&&◌, if◌then◌else◌, Option, Some, None, List, [], ◌∷◌, codes}
+use Rattle.std.specs.Prelude.{ℕ, ⊤, Bool, true, false, ◌&&◌, if◌then◌else◌, Option, Some, None, List, [], ◌∷◌, codes}
 use Rattle.std.specs.Option.{option_map_or}
 use Rattle.std.specs.Str.{bytes_eq}
 use Rattle.std.specs.Str.Parse.{digits_value, without_leading_plus}
@@ -7,6 +7,9 @@ use Rattle.clap.specs.ValueTests.{accepts}
 use Rattle.clap.specs.Words.{App, Row, Rule, Text, first_of, matches_of, new_app, new_rule, takes, with_rule}
 use Rattle.clap.specs.declared.builder.action.ArgAction.TheVariants as A
 use Rattle.clap.specs.declared.builder.value_parser.ValueParser.TheVariants as P
+use Rattle.flow_cli.specs.declared.words.Command.{Command}
+use Rattle.flow_cli.specs.declared.words.Command.TheVariants as C
+use Rattle.flow_cli.specs.declared.words.Generating.{Generating}
 use Rattle.flow_cli.specs.declared.words.Options.{Options}
 
 -- the option `--journal`
@@ -45,3 +48,44 @@ options_in rows = record { journal = is_set (codes "journal") rows; items = item
 -- what a line of `plain` asks for; other words are no line of it
 abbrev pub plain_options : List Text → Option Options
 plain_options words = if is_line_of plain_app words then Some (options_in (matches_of plain_app words)) else None
+
+-- ---- the command `gen`
+
+-- the number, from 1 to 90000
+abbrev pub count_rule : Rule
+count_rule = record (new_rule (codes "count")) { action = Some A.Set; parser = Some (P.Unsigned 1 90000); required = true }
+
+-- the option `--text`
+abbrev pub text_rule : Rule
+text_rule = record (new_rule (codes "text")) { long = Some (codes "text"); action = Some A.SetTrue }
+
+abbrev pub gen_app : App
+gen_app = with_rule (with_rule (new_app (codes "gen")) count_rule) text_rule
+
+abbrev pub count_of : Text → ℕ
+count_of text = if accepts false (P.Unsigned 1 90000) text then digits_value 10 (without_leading_plus text) else 1
+
+abbrev pub count_in : List Row → ℕ
+count_in rows = option_map_or count_of (first_of (codes "count") rows) 1
+
+abbrev pub generating_in : List Row → Generating
+generating_in rows = record { count = count_in rows; text = is_set (codes "text") rows }
+
+-- what a line of `gen` asks for; other words are no line of it
+abbrev pub gen_options : List Text → Option Generating
+gen_options words = if is_line_of gen_app words then Some (generating_in (matches_of gen_app words)) else None
+
+-- ---- the command `check`
+
+abbrev pub check_app : App
+check_app = new_app (codes "check")
+
+-- a line of `check` has no more to ask
+abbrev pub check_asked : List Text → Option ⊤
+check_asked words = if is_line_of check_app words then Some tt else None
+
+-- ---- which command
+
+-- the command that the first word names; all words that name none are bad words of `plain`
+abbrev pub command_of : List Text → Command
+command_of words = if begins_with (codes "gen") words then C.Gen else (if begins_with (codes "check") words then C.Check else C.Plain)

@@ -1,5 +1,5 @@
 // Documents with functions.
-use crate::tests::{call, expect, sink, source};
+use crate::tests::{call, expect_rows, sink, source};
 use flow_item::Event;
 use std::test::Fail;
 
@@ -144,19 +144,9 @@ const REFUSED: [(&str, &str, u8, &str); 13] = [
 ];
 
 #[test]
-fn reports_of_functions(rt: HostRuntime) -> Result<(), Fail> {
-    for (line, input, code, output) in REPORTS {
-        expect(&rt, rt.alloc(), line, input, code, output)?;
-    }
-    Ok(())
-}
-
-#[test]
-fn functions_that_are_refused(rt: HostRuntime) -> Result<(), Fail> {
-    for (line, input, code, output) in REFUSED {
-        expect(&rt, rt.alloc(), line, input, code, output)?;
-    }
-    Ok(())
+fn documents_with_functions(rt: HostRuntime) -> Result<(), Fail> {
+    expect_rows(&rt, rt.alloc(), REPORTS.as_slice())?;
+    expect_rows(&rt, rt.alloc(), REFUSED.as_slice())
 }
 
 #[test]

@@ -1,14 +1,15 @@
-ghost use Rattle.std.specs.Prelude.{◌≡◌, IfOk, None, [], ◌∷◌};
+ghost use Rattle.std.specs.Prelude.{◌≡◌, IfOk, None, true, map, [], ◌∷◌};
 ghost use Rattle.flow_print.specs.Report.{MayBePrinted};
 ghost use Rattle.flow_print.specs.Replayed.{IsBuilt};
 
 use crate::plain_top;
 use flow_body::{
-    Add, Builtins, CountTo, Echo, FailMemory, Len, Mul, Neg, Pair, Part, SplitEven, builtin_shelf,
+    Add, Builtins, CountTo, Echo, FailMemory, Len, Mul, Neg, Pair, Part, Shelf, SplitEven,
+    builtin_shelf,
 };
 use flow_doc::{Doc, Kept, Lives, Names, Nodes, Scripts};
 use flow_io::{MemSink, MemSource};
-use flow_item::{Event, Id, Item, Journal, Land, Link, PutAnswer, Text, Val};
+use flow_item::{Event, Id, Item, Journal, Land, Link, NoMemory, PutAnswer, Text, Val};
 use flow_print::{Status, print_report};
 use flow_shape::{Edge, Edges, Kind, Kinds, Shape};
 use std::alloc::Global;
@@ -17,6 +18,160 @@ use std::test::Fail;
 
 const ONE_QUEUE: &str =
     "{\"version\":1,\"nodes\":[{\"name\":\"q\",\"kind\":\"queue\"}],\"edges\":[],\"callers\":[[{\"put\":\"q\",\"val\":5}]],\"sinks\":[\"q\"]}";
+
+// A line of words, a document, the status and what is written.
+const REPORTS: [(&str, &str, u8, &str); 8] = [
+    (
+        "plain",
+        ONE_QUEUE,
+        0,
+        "sinks 1\nq 1\n0 5\ntally 1\nq in 1 out 0 eaten 0 lost 0 over 0 kept 1\nevents 3 items 1 refused 0 status 0\n",
+    ),
+    (
+        "plain --journal",
+        ONE_QUEUE,
+        0,
+        "sinks 1\nq 1\n0 5\ntally 1\nq in 1 out 0 eaten 0 lost 0 over 0 kept 1\njournal 3\nput 0 0 0 0 accepted 0 kept 5\nleave 0\nidle 0\nevents 3 items 1 refused 0 status 0\n",
+    ),
+    (
+        "plain --journal",
+        "{\"version\":1,\"nodes\":[],\"edges\":[],\"callers\":[],\"sinks\":[]}",
+        0,
+        "sinks 0\ntally 0\njournal 0\nevents 0 items 0 refused 0 status 0\n",
+    ),
+    (
+        "plain --items 0 --journal",
+        ONE_QUEUE,
+        8,
+        "sinks 1\nq 0\ntally 1\nq in 0 out 0 eaten 0 lost 0 over 0 kept 0\njournal 0\nstopped put 0 0 0 0 accepted 0 kept 5\nevents 0 items 0 refused 0 status 8\n",
+    ),
+    (
+        "plain",
+        "{\"version\":1,\"nodes\":[{\"name\":\"a\",\"kind\":\"queue\"},{\"name\":\"b\",\"kind\":\"queue\"}],\"edges\":[{\"from\":\"a\",\"to\":\"b\"}],\"callers\":[[{\"put\":\"a\",\"val\":5}]],\"sinks\":[\"b\"]}",
+        0,
+        "sinks 1\nb 1\n0 5\ntally 2\na in 1 out 1 eaten 0 lost 0 over 0 kept 0\nb in 1 out 0 eaten 0 lost 0 over 0 kept 1\nevents 5 items 2 refused 0 status 0\n",
+    ),
+    (
+        "plain --items 1 --journal",
+        "{\"version\":1,\"nodes\":[{\"name\":\"a\",\"kind\":\"queue\"},{\"name\":\"b\",\"kind\":\"queue\"}],\"edges\":[{\"from\":\"a\",\"to\":\"b\"}],\"callers\":[[{\"put\":\"a\",\"val\":5}]],\"sinks\":[\"b\"]}",
+        8,
+        "sinks 1\nb 0\ntally 2\na in 1 out 0 eaten 0 lost 0 over 0 kept 1\nb in 0 out 0 eaten 0 lost 0 over 0 kept 0\njournal 2\nput 0 0 0 0 accepted 0 kept 5\nleave 0\nstopped give 0 0 1 0 0 0 kept 0 5\nevents 2 items 1 refused 0 status 8\n",
+    ),
+    (
+        "plain --items=2 --journal",
+        "{\"version\":1,\"nodes\":[{\"name\":\"a\",\"kind\":\"queue\"},{\"name\":\"b\",\"kind\":\"queue\"}],\"edges\":[{\"from\":\"a\",\"to\":\"b\"}],\"callers\":[[{\"put\":\"a\",\"val\":5}]],\"sinks\":[\"b\"]}",
+        0,
+        "sinks 1\nb 1\n0 5\ntally 2\na in 1 out 1 eaten 0 lost 0 over 0 kept 0\nb in 1 out 0 eaten 0 lost 0 over 0 kept 1\njournal 5\nput 0 0 0 0 accepted 0 kept 5\nleave 0\ngive 0 0 1 0 0 0 kept 0 5\nidle 0\nidle 1\nevents 5 items 2 refused 0 status 0\n",
+    ),
+    (
+        "plain",
+        "{\"version\":1,\"nodes\":[{\"name\":\"q\",\"kind\":\"queue\"}],\"edges\":[],\"callers\":[[{\"put\":\"q\",\"val\":[[[[[[[[[[[[[[[[[[[[[[[[[[[[[[[[]]]]]]]]]]]]]]]]]]]]]]]]]]]]]]]]}]],\"sinks\":[\"q\"]}",
+        0,
+        "sinks 1\nq 1\n0 [[[[[[[[[[[[[[[[[[[[[[[[[[[[[[[[]]]]]]]]]]]]]]]]]]]]]]]]]]]]]]]]\ntally 1\nq in 1 out 0 eaten 0 lost 0 over 0 kept 1\nevents 3 items 1 refused 0 status 0\n",
+    ),
+];
+
+// Documents that are refused.
+const REFUSED: [(&str, &str, u8, &str); 13] = [
+    ("plain", "", 5, "error 5 syntax\n"),
+    (
+        "plain",
+        "{\"version\":1,\"nodes\":[{\"name\":\"q",
+        5,
+        "error 5 syntax\n",
+    ),
+    (
+        "plain",
+        "[[[[[[[[[[[[[[[[[[[[[[[[[[[[[[[[[[[[[[[[[[[[[[[[[[[[[[[[[[[[[[[[[[[[[[[[[[[[[[[[[[[[[[[[[[[[[[[[[[[[[[[[[[[[[[[[[[[[[[[[[[[[[[[[]]]]]]]]]]]]]]]]]]]]]]]]]]]]]]]]]]]]]]]]]]]]]]]]]]]]]]]]]]]]]]]]]]]]]]]]]]]]]]]]]]]]]]]]]]]]]]]]]]]]]]]]]]]]]]]]]]]]]]]]]]]]]]]]",
+        5,
+        "error 5 syntax\n",
+    ),
+    (
+        "plain",
+        "[[[[[[[[[[[[[[[[[[[[[[[[[[[[[[[[[[[[[[[[[[[[[[[[[[[[[[[[[[[[[[[[[[[[[[[[[[[[[[[[[[[[[[[[[[[[[[[[[[[[[[[[[[[[[[[[[[[[[[[[[[[[[[[]]]]]]]]]]]]]]]]]]]]]]]]]]]]]]]]]]]]]]]]]]]]]]]]]]]]]]]]]]]]]]]]]]]]]]]]]]]]]]]]]]]]]]]]]]]]]]]]]]]]]]]]]]]]]]]]]]]]]]]]]]]]]]]",
+        6,
+        "error 6 . object\n",
+    ),
+    (
+        "plain",
+        "{\"version\":1,\"nodes\":[{\"name\":\"q\",\"kind\":\"queue\"}],\"edges\":[],\"callers\":[[{\"put\":\"q\",\"val\":1.5}]],\"sinks\":[\"q\"]}",
+        6,
+        "error 6 callers/0/0/val value\n",
+    ),
+    ("plain", "{\"version\":1}", 6, "error 6 nodes list\n"),
+    (
+        "plain",
+        "{\"version\":9,\"nodes\":[{\"name\":\"q\",\"kind\":\"queue\"}],\"edges\":[],\"callers\":[[{\"put\":\"q\",\"val\":5}]],\"sinks\":[\"q\"]}",
+        6,
+        "error 6 version version\n",
+    ),
+    (
+        "plain",
+        "{\"version\":1,\"nodes\":[{\"name\":\"q\",\"kind\":\"queue\",\"colour\":1}],\"edges\":[],\"callers\":[[{\"put\":\"q\",\"val\":5}]],\"sinks\":[\"q\"]}",
+        6,
+        "error 6 nodes/0/colour known\n",
+    ),
+    (
+        "plain",
+        "{\"version\":1,\"nodes\":[{\"name\":\"q\",\"kind\":\"queue\"},{\"name\":\"q\",\"kind\":\"queue\"}],\"edges\":[],\"callers\":[[{\"put\":\"q\",\"val\":5}]],\"sinks\":[\"q\"]}",
+        6,
+        "error 6 nodes/1/name new\n",
+    ),
+    ("plain", "[]", 6, "error 6 . object\n"),
+    (
+        "plain",
+        "{\"version\":1,\"nodes\":[{\"name\":\"q\",\"kind\":\"queue\",\"capacity\":2}],\"edges\":[],\"callers\":[[{\"put\":\"q\",\"val\":1},{\"put\":\"q\",\"tag\":1,\"val\":2},{\"put\":\"q\",\"tag\":2,\"val\":3}]],\"sinks\":[\"q\"]}",
+        6,
+        "error 6 nodes/0/capacity known\n",
+    ),
+    (
+        "plain",
+        "{\"version\":1,\"nodes\":[{\"name\":\"q\",\"kind\":\"queue\"}],\"edges\":[{\"from\":\"q\",\"to\":\"q\"}],\"callers\":[],\"sinks\":[]}",
+        7,
+        "error 7 G9 edge 0\n",
+    ),
+    (
+        "plain",
+        "{\"version\":1,\"nodes\":[{\"name\":\"a\",\"kind\":\"queue\"},{\"name\":\"b\",\"kind\":\"queue\"}],\"edges\":[{\"from\":\"a\",\"out\":1,\"to\":\"b\"}],\"callers\":[],\"sinks\":[]}",
+        7,
+        "error 7 G7 edge 0\n",
+    ),
+];
+
+// Words that are no line of a command.
+const WORDS: [&str; 31] = [
+    "check now",
+    "gen 0",
+    "gen 90001",
+    "gen --text 5 --text",
+    "gen 5 6",
+    "gen",
+    "plain --help",
+    "-h",
+    "plain --items",
+    "plain --items x",
+    "plain --items 2000001",
+    "plain --items 5 --items 5",
+    "plain --journal --journal",
+    "run --live 0",
+    "",
+    "run --workers 0",
+    "replay --workers 0",
+    "replay --workers 129",
+    "plain now",
+    "run --live 101",
+    "run --workers 65",
+    "walk",
+    "plain --workers 2",
+    "plain --journal=true",
+    "plain --items= ",
+    "plain --items=-0",
+    "plain -- x",
+    "plain --item 5",
+    "Plain",
+    "plain plain",
+    "plain --items 5 --journal --items=5",
+];
 
 fn words_of(alloc: Global, line: &str) -> Result<Vec<String>, Fail> {
     let mut words = Vec::new(alloc);
@@ -46,13 +201,13 @@ pub(crate) fn sink(alloc: Global) -> MemSink {
     }
 }
 
-pub(crate) fn call(
+// What the words come to, with the shelf of the built-in bodies.
+fn serve(
     alloc: Global,
-    line: &str,
+    words: &[String],
     source: &mut MemSource,
     sink: &mut MemSink,
-) -> Result<(Status, Kept), Fail> {
-    let words = words_of(alloc, line)?;
+) -> Result<(Status, Kept), NoMemory> {
     let bodies = Builtins {
         add: Box::new(alloc, Add)?,
         mul: Box::new(alloc, Mul)?,
@@ -65,13 +220,26 @@ pub(crate) fn call(
         count_to: Box::new(alloc, CountTo)?,
         fail_memory: Box::new(alloc, FailMemory)?,
     };
-    let shelf = builtin_shelf(alloc, bodies).ok().ok_or("a shelf")?;
+    let shelf = builtin_shelf(alloc, bodies)?;
     let mut kept = Kept::new(alloc);
-    let status = plain_top(alloc, words.as_slice(), source, sink, &shelf, &mut kept);
+    let status = plain_top(alloc, words, source, sink, &shelf, &mut kept);
     Ok((status, kept))
 }
 
-pub(crate) fn expect(
+pub(crate) fn call(
+    alloc: Global,
+    line: &str,
+    source: &mut MemSource,
+    sink: &mut MemSink,
+) -> Result<(Status, Kept), Fail> {
+    let words = words_of(alloc, line)?;
+    match serve(alloc, words.as_slice(), source, sink) {
+        Ok(served) => Ok(served),
+        Err(_) => Err(Fail::from("no memory")),
+    }
+}
+
+fn expect(
     rt: &impl Abort,
     alloc: Global,
     line: &str,
@@ -91,166 +259,29 @@ pub(crate) fn expect(
     Ok(())
 }
 
-#[test]
-fn reports(rt: HostRuntime) -> Result<(), Fail> {
-    let rows = [
-        (
-            "plain",
-            ONE_QUEUE,
-            0,
-            "sinks 1\nq 1\n0 5\ntally 1\nq in 1 out 0 eaten 0 lost 0 over 0 kept 1\nevents 3 items 1 refused 0 status 0\n",
-        ),
-        (
-            "plain --journal",
-            ONE_QUEUE,
-            0,
-            "sinks 1\nq 1\n0 5\ntally 1\nq in 1 out 0 eaten 0 lost 0 over 0 kept 1\njournal 3\nput 0 0 0 0 accepted 0 kept 5\nleave 0\nidle 0\nevents 3 items 1 refused 0 status 0\n",
-        ),
-        (
-            "plain --journal",
-            "{\"version\":1,\"nodes\":[],\"edges\":[],\"callers\":[],\"sinks\":[]}",
-            0,
-            "sinks 0\ntally 0\njournal 0\nevents 0 items 0 refused 0 status 0\n",
-        ),
-        (
-            "plain --items 0 --journal",
-            ONE_QUEUE,
-            8,
-            "sinks 1\nq 0\ntally 1\nq in 0 out 0 eaten 0 lost 0 over 0 kept 0\njournal 0\nstopped put 0 0 0 0 accepted 0 kept 5\nevents 0 items 0 refused 0 status 8\n",
-        ),
-        (
-            "plain",
-            "{\"version\":1,\"nodes\":[{\"name\":\"a\",\"kind\":\"queue\"},{\"name\":\"b\",\"kind\":\"queue\"}],\"edges\":[{\"from\":\"a\",\"to\":\"b\"}],\"callers\":[[{\"put\":\"a\",\"val\":5}]],\"sinks\":[\"b\"]}",
-            0,
-            "sinks 1\nb 1\n0 5\ntally 2\na in 1 out 1 eaten 0 lost 0 over 0 kept 0\nb in 1 out 0 eaten 0 lost 0 over 0 kept 1\nevents 5 items 2 refused 0 status 0\n",
-        ),
-        (
-            "plain --items 1 --journal",
-            "{\"version\":1,\"nodes\":[{\"name\":\"a\",\"kind\":\"queue\"},{\"name\":\"b\",\"kind\":\"queue\"}],\"edges\":[{\"from\":\"a\",\"to\":\"b\"}],\"callers\":[[{\"put\":\"a\",\"val\":5}]],\"sinks\":[\"b\"]}",
-            8,
-            "sinks 1\nb 0\ntally 2\na in 1 out 0 eaten 0 lost 0 over 0 kept 1\nb in 0 out 0 eaten 0 lost 0 over 0 kept 0\njournal 2\nput 0 0 0 0 accepted 0 kept 5\nleave 0\nstopped give 0 0 1 0 0 0 kept 0 5\nevents 2 items 1 refused 0 status 8\n",
-        ),
-        (
-            "plain --items=2 --journal",
-            "{\"version\":1,\"nodes\":[{\"name\":\"a\",\"kind\":\"queue\"},{\"name\":\"b\",\"kind\":\"queue\"}],\"edges\":[{\"from\":\"a\",\"to\":\"b\"}],\"callers\":[[{\"put\":\"a\",\"val\":5}]],\"sinks\":[\"b\"]}",
-            0,
-            "sinks 1\nb 1\n0 5\ntally 2\na in 1 out 1 eaten 0 lost 0 over 0 kept 0\nb in 1 out 0 eaten 0 lost 0 over 0 kept 1\njournal 5\nput 0 0 0 0 accepted 0 kept 5\nleave 0\ngive 0 0 1 0 0 0 kept 0 5\nidle 0\nidle 1\nevents 5 items 2 refused 0 status 0\n",
-        ),
-        (
-            "plain",
-            "{\"version\":1,\"nodes\":[{\"name\":\"q\",\"kind\":\"queue\"}],\"edges\":[],\"callers\":[[{\"put\":\"q\",\"val\":[[[[[[[[[[[[[[[[[[[[[[[[[[[[[[[[]]]]]]]]]]]]]]]]]]]]]]]]]]]]]]]]}]],\"sinks\":[\"q\"]}",
-            0,
-            "sinks 1\nq 1\n0 [[[[[[[[[[[[[[[[[[[[[[[[[[[[[[[[]]]]]]]]]]]]]]]]]]]]]]]]]]]]]]]]\ntally 1\nq in 1 out 0 eaten 0 lost 0 over 0 kept 1\nevents 3 items 1 refused 0 status 0\n",
-        ),
-    ];
+pub(crate) fn expect_rows(
+    rt: &impl Abort,
+    alloc: Global,
+    rows: &[(&str, &str, u8, &str)],
+) -> Result<(), Fail> {
     for (line, input, code, output) in rows {
-        expect(&rt, rt.alloc(), line, input, code, output)?;
+        expect(rt, alloc, line, input, *code, output)?;
     }
     Ok(())
 }
 
-#[test]
-fn documents_that_are_refused(rt: HostRuntime) -> Result<(), Fail> {
-    let rows = [
-        ("", 5, "error 5 syntax\n"),
-        (
-            "{\"version\":1,\"nodes\":[{\"name\":\"q",
-            5,
-            "error 5 syntax\n",
-        ),
-        (
-            "[[[[[[[[[[[[[[[[[[[[[[[[[[[[[[[[[[[[[[[[[[[[[[[[[[[[[[[[[[[[[[[[[[[[[[[[[[[[[[[[[[[[[[[[[[[[[[[[[[[[[[[[[[[[[[[[[[[[[[[[[[[[[[[[]]]]]]]]]]]]]]]]]]]]]]]]]]]]]]]]]]]]]]]]]]]]]]]]]]]]]]]]]]]]]]]]]]]]]]]]]]]]]]]]]]]]]]]]]]]]]]]]]]]]]]]]]]]]]]]]]]]]]]]]]]]]]]]]",
-            5,
-            "error 5 syntax\n",
-        ),
-        (
-            "[[[[[[[[[[[[[[[[[[[[[[[[[[[[[[[[[[[[[[[[[[[[[[[[[[[[[[[[[[[[[[[[[[[[[[[[[[[[[[[[[[[[[[[[[[[[[[[[[[[[[[[[[[[[[[[[[[[[[[[[[[[[[[[]]]]]]]]]]]]]]]]]]]]]]]]]]]]]]]]]]]]]]]]]]]]]]]]]]]]]]]]]]]]]]]]]]]]]]]]]]]]]]]]]]]]]]]]]]]]]]]]]]]]]]]]]]]]]]]]]]]]]]]]]]]]]]]",
-            6,
-            "error 6 . object\n",
-        ),
-        (
-            "{\"version\":1,\"nodes\":[{\"name\":\"q\",\"kind\":\"queue\"}],\"edges\":[],\"callers\":[[{\"put\":\"q\",\"val\":1.5}]],\"sinks\":[\"q\"]}",
-            6,
-            "error 6 callers/0/0/val value\n",
-        ),
-        ("{\"version\":1}", 6, "error 6 nodes list\n"),
-        (
-            "{\"version\":9,\"nodes\":[{\"name\":\"q\",\"kind\":\"queue\"}],\"edges\":[],\"callers\":[[{\"put\":\"q\",\"val\":5}]],\"sinks\":[\"q\"]}",
-            6,
-            "error 6 version version\n",
-        ),
-        (
-            "{\"version\":1,\"nodes\":[{\"name\":\"q\",\"kind\":\"queue\",\"colour\":1}],\"edges\":[],\"callers\":[[{\"put\":\"q\",\"val\":5}]],\"sinks\":[\"q\"]}",
-            6,
-            "error 6 nodes/0/colour known\n",
-        ),
-        (
-            "{\"version\":1,\"nodes\":[{\"name\":\"q\",\"kind\":\"queue\"},{\"name\":\"q\",\"kind\":\"queue\"}],\"edges\":[],\"callers\":[[{\"put\":\"q\",\"val\":5}]],\"sinks\":[\"q\"]}",
-            6,
-            "error 6 nodes/1/name new\n",
-        ),
-        ("[]", 6, "error 6 . object\n"),
-        (
-            "{\"version\":1,\"nodes\":[{\"name\":\"q\",\"kind\":\"queue\",\"capacity\":2}],\"edges\":[],\"callers\":[[{\"put\":\"q\",\"val\":1},{\"put\":\"q\",\"tag\":1,\"val\":2},{\"put\":\"q\",\"tag\":2,\"val\":3}]],\"sinks\":[\"q\"]}",
-            6,
-            "error 6 nodes/0/capacity known\n",
-        ),
-        (
-            "{\"version\":1,\"nodes\":[{\"name\":\"q\",\"kind\":\"queue\"}],\"edges\":[{\"from\":\"q\",\"to\":\"q\"}],\"callers\":[],\"sinks\":[]}",
-            7,
-            "error 7 G9 edge 0\n",
-        ),
-        (
-            "{\"version\":1,\"nodes\":[{\"name\":\"a\",\"kind\":\"queue\"},{\"name\":\"b\",\"kind\":\"queue\"}],\"edges\":[{\"from\":\"a\",\"out\":1,\"to\":\"b\"}],\"callers\":[],\"sinks\":[]}",
-            7,
-            "error 7 G7 edge 0\n",
-        ),
-    ];
-    for (input, code, output) in rows {
-        expect(&rt, rt.alloc(), "plain", input, code, output)?;
-    }
-    Ok(())
-}
-
-#[test]
-fn words_that_are_refused(rt: HostRuntime) -> Result<(), Fail> {
-    let lines = [
-        "check now",
-        "gen 0",
-        "gen 90001",
-        "gen --text 5 --text",
-        "gen 5 6",
-        "gen",
-        "plain --help",
-        "-h",
-        "plain --items",
-        "plain --items x",
-        "plain --items 2000001",
-        "plain --items 5 --items 5",
-        "plain --journal --journal",
-        "run --live 0",
-        "",
-        "run --workers 0",
-        "replay --workers 0",
-        "replay --workers 129",
-        "plain now",
-        "run --live 101",
-        "run --workers 65",
-        "walk",
-        "plain --workers 2",
-        "plain --journal=true",
-        "plain --items= ",
-        "plain --items=-0",
-        "plain -- x",
-        "plain --item 5",
-        "Plain",
-        "plain plain",
-        "plain --items 5 --journal --items=5",
-    ];
+fn expect_refused(rt: &impl Abort, alloc: Global, lines: &[&str]) -> Result<(), Fail> {
     for line in lines {
-        expect(&rt, rt.alloc(), line, ONE_QUEUE, 1, "error 1 words\n")?;
+        expect(rt, alloc, line, ONE_QUEUE, 1, "error 1 words\n")?;
     }
     Ok(())
+}
+
+#[test]
+fn lines_and_documents(rt: HostRuntime) -> Result<(), Fail> {
+    expect_rows(&rt, rt.alloc(), REPORTS.as_slice())?;
+    expect_rows(&rt, rt.alloc(), REFUSED.as_slice())?;
+    expect_refused(&rt, rt.alloc(), WORDS.as_slice())
 }
 
 #[test]

@@ -1,11 +1,11 @@
 -- The least node that fails a test, node by node.
-use Rattle.std.proofs.Common.{◌≡◌, ℕ, zero, suc, ◌+◌, Bool, true, false, cond, Option, Some, None, List, [], ◌∷◌, drop, refl, sym, ap, subst, ◌∙◌, arith}
+use Rattle.std.proofs.Common.{◌≡◌, ℕ, zero, suc, ◌+◌, Bool, true, false, cond, Option, Some, List, [], ◌∷◌, drop, ap, subst, ◌∙◌, arith}
 use Rattle.std.specs.Prelude.{slice_get}
 use Rattle.flow_item.specs.Lists.{first}
 use Rattle.flow_shape.specs.declared.Kind.{Kind}
 use Rattle.flow_mean.specs.Determinate.{nodes_where}
 
-drop-at : {X : Type 0} (xs : List X) (i : ℕ) (x : X) → slice_get xs i ≡ Some x → drop i xs ≡ x ∷ drop (i + 1) xs
+pub drop-at : {X : Type 0} (xs : List X) (i : ℕ) (x : X) → slice_get xs i ≡ Some x → drop i xs ≡ x ∷ drop (i + 1) xs
 drop-at [] i x h = cc
 drop-at {X} (y ∷ ys) zero x h = let same : y ≡ x = cc in ap (λ (z : X). z ∷ ys) same
 drop-at (y ∷ ys) (suc i) x h = drop-at ys i x h ∙ ap (λ (l : List _). x ∷ l) (ap (λ n. drop n (y ∷ ys)) plus)

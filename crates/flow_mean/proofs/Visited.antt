@@ -22,7 +22,7 @@ use Rattle.flow_mean.specs.Meaning.{put_to, is_sequencer, through, passed_by, pa
 use Rattle.flow_mean.specs.Determinate.{is_orderly, repeats_tag}
 use Rattle.flow_mean.specs.Passing.{AreSources, brought, brought_to, maps_at, repeats_at, kept_by, HasSizes, Knows, Passes, IsFound, Awaits}
 use Rattle.flow_mean.proofs.Steady.{into-same, passes-steady}
-use Rattle.flow_mean.proofs.Judged.{Early}
+use Rattle.flow_mean.proofs.Grouped.{Early}
 
 -- ---- lists
 
@@ -99,7 +99,7 @@ passed-ports m (K.Split outs) f g o h = refl
 ports-join : (n : ℕ) → (leb 1 n && leb n 8) ≡ true → (1 ≤ n) × (n ≤ 8)
 ports-join n g = (leb-true 1 n (and_left (leb 1 n) (leb n 8) g), leb-true n 8 (and_right (leb 1 n) (leb n 8) g))
 
-orderly-ports : (k : Kind) → is_orderly k ≡ true → has_good_ports k ≡ true → (1 ≤ inputs k) × (inputs k ≤ 8)
+pub orderly-ports : (k : Kind) → is_orderly k ≡ true → has_good_ports k ≡ true → (1 ≤ inputs k) × (inputs k ≤ 8)
 orderly-ports (K.KeyJoin ports) o g = ports-join ports g
 orderly-ports (K.Buffer capacity) o g = (omega arith, omega arith)
 orderly-ports (K.Queue capacity) o g = (omega arith, omega arith)

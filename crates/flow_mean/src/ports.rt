@@ -85,7 +85,7 @@ pub fn puts_of(alloc: Global, doc: &Doc) -> Result<Vec<Pairs>, NoMemory>
 }
 
 /// So many empty lists.
-fn empty_orders(alloc: Global, count: usize) -> Result<Vec<Order>, NoMemory>
+pub fn empty_orders(alloc: Global, count: usize) -> Result<Vec<Order>, NoMemory>
     ensures len { IfOk result (λ v. length v.items ≡ count) }
     ensures empty { IfOk result (λ v. (n : ℕ) → get_or v.items n [] ≡ []) }
 {
@@ -96,13 +96,13 @@ fn empty_orders(alloc: Global, count: usize) -> Result<Vec<Order>, NoMemory>
     Ok(lists)
 }
 
-/// Adds a from-node to the list at a place.
-fn add_from(lists: &mut Vec<Order>, place: usize, from: u32) -> Result<(), NoMemory>
+/// Adds a node to the list at a place.
+pub fn add_node(lists: &mut Vec<Order>, place: usize, node: u32) -> Result<(), NoMemory>
     requires { place < length lists.old.items }
     ensures { OnOk result (lists.new.items
-        ≡ slice_set lists.old.items place (get_or lists.old.items place [] ++ from ∷ [])) }
+        ≡ slice_set lists.old.items place (get_or lists.old.items place [] ++ node ∷ [])) }
 {
-    match lists[place].push(from) {
+    match lists[place].push(node) {
         Ok(()) => Ok(()),
         Err(_) => Err(NoMemory),
     }
@@ -118,7 +118,7 @@ fn add_source(lists: &mut Vec<Order>, edge: &Edge) -> Result<(), NoMemory>
     if edge.port >= 8 || place >= lists.len() {
         return Ok(());
     }
-    add_from(lists, place, edge.from)
+    add_node(lists, place, edge.from)
 }
 
 /// The from-nodes of the edges into each port, edge by edge.

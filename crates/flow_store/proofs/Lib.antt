@@ -1,5 +1,6 @@
 mod Counting
 mod Firsts
+mod Playing
 mod RankSteps
 mod Ranking
 mod Rising

@@ -1,0 +1,119 @@
+-- What a whole run of a determinate document shows.
+use Rattle.std.proofs.Common.{◌≡◌, ℕ, zero, suc, ◌+◌, Bool, true, false, ◌&&◌, nat_eq, Option, Some, None, Ok, List, [], ◌∷◌, length, slice_get, refl, sym, ap, ◌∙◌, subst, arith, eq-eqb}
+use Rattle.std.specs.Prelude.{IfSome}
+use Rattle.flow_item.specs.declared.event.Event.{Event}
+use Rattle.flow_item.specs.declared.val.Val.{Val}
+use Rattle.flow_item.specs.Lists.{each_place}
+use Rattle.flow_item.specs.Values.{same_val}
+use Rattle.flow_item.proofs.Tests.{both_true}
+use Rattle.flow_progress.proofs.Same.{val-same}
+use Rattle.flow_shape.specs.declared.Shape.{Shape}
+use Rattle.flow_shape.specs.declared.Step.{Step}
+use Rattle.flow_machine.specs.Bodies.{Meanings, bodies_kept}
+use Rattle.flow_machine.specs.Machine.{is_run}
+use Rattle.flow_machine.specs.Scripts.{Sent, puts, acts, cancels, leaves, same_sent, sent_of, script, is_prefix_of, scripts_kept}
+use Rattle.flow_body.specs.Laws.{SinglesAnswerOnce}
+use Rattle.flow_doc.specs.declared.Doc.{Doc}
+use Rattle.flow_doc.specs.declared.Kept.{Kept}
+use Rattle.flow_doc.specs.Fits.{doc_fits}
+use Rattle.flow_doc.proofs.Fitting.{read_fits}
+use Rattle.flow_mean.specs.Determinate.{IsDeterminate}
+use Rattle.flow_determinacy.specs.Laws.{follows, scripts_done}
+use Rattle.flow_determinacy.proofs.Results.{one-result}
+use Rattle.flow_print.specs.declared.status.Status.{Status}
+use Rattle.flow_print.specs.declared.status.Status.TheVariants as S
+use Rattle.flow_print.specs.Sinks.{sink_pairs, sinks_section}
+use Rattle.flow_work.specs.Promises.{CompletesScripts}
+use Rattle.flow_cli.specs.declared.input.TheConstants.{OFFERED}
+use Rattle.flow_cli.specs.declared.words.Generating.{Generating}
+use Rattle.flow_cli.specs.declared.words.Options.{Options}
+use Rattle.flow_cli.specs.Check.{meaning_section}
+use Rattle.flow_cli.specs.Plain.{IsRead, IsDone}
+use Rattle.flow_cli.specs.Steps.{IsAnswer}
+use Rattle.flow_cli.specs.Gen.{RunsNumber, KeepsAsked, KeepsGenerated, IsGenAnswer}
+use Rattle.flow_gen.proofs.Fitting.{found_fits}
+use Rattle.flow_cli.specs.Checked.{ShowsMeaning}
+
+-- ---- a whole script is a first part of itself
+
+sent_same : (s : Sent) → same_sent s s ≡ true
+sent_same (puts n p t v) = both_true (both_true (both_true (eq-eqb n n refl) (eq-eqb p p refl)) (eq-eqb t t refl)) (val-same v)
+sent_same (acts n) = eq-eqb n n refl
+sent_same (cancels n) = eq-eqb n n refl
+sent_same leaves = refl
+
+prefix_same : (xs : List Sent) → is_prefix_of xs xs ≡ true
+prefix_same [] = refl
+prefix_same (x ∷ xs) = both_true (sent_same x) (prefix_same xs)
+
+each_from : {X : Type 0} (p : ℕ → X → Bool) (n : ℕ) (xs : List X) → ((i m : ℕ) (x : X) → m ≡ n + i → slice_get xs i ≡ Some x → p m x ≡ true) → each_place p n xs ≡ true
+each_from p n [] h = refl
+each_from p n (x ∷ xs) h = both_true (h 0 n x (omega arith) refl) (each_from p (suc n) xs (λ i m y e at. h (suc i) m y (omega (arith, e)) at))
+
+module _ (shape : Shape) (scripts : List (List Step)) (es : List Event) (whole : CompletesScripts shape scripts es) where
+  sent_whole : (i c : ℕ) (steps : List Step) → c ≡ 0 + i → slice_get scripts i ≡ Some steps → sent_of es c ≡ script shape steps
+  sent_whole i c steps e at = let same : i ≡ c = omega (arith, e) in whole c steps (ap (λ n. slice_get scripts n) (sym same) ∙ at)
+
+  kept_whole : scripts_kept shape scripts es ≡ true
+  kept_whole = each_from (λ c steps. is_prefix_of (sent_of es c) (script shape steps)) 0 scripts (λ i c steps e at. ap (λ ss. is_prefix_of ss (script shape steps)) (sent_whole i c steps e at) ∙ prefix_same (script shape steps))
+
+  done_whole : scripts_done shape scripts es ≡ true
+  done_whole = each_from (λ c steps. is_prefix_of (script shape steps) (sent_of es c)) 0 scripts (λ i c steps e at. ap (λ ss. is_prefix_of (script shape steps) ss) (sent_whole i c steps e at) ∙ prefix_same (script shape steps))
+
+-- a run of a determinate document that was done shows its meaning
+pub shows_meaning : (meanings : Meanings) (bodies : ℕ) (doc : Doc) (es : List Event) → doc_fits bodies doc ≡ true → is_run doc.shape (length doc.scripts) 1 es ≡ true → bodies_kept meanings doc.shape es ≡ true → IsDone doc es →
+    SinglesAnswerOnce meanings → IsDeterminate meanings doc → sinks_section doc.names (sink_pairs doc.shape es) doc.sinks ≡ meaning_section meanings doc
+shows_meaning meanings bodies doc es fits run kept done singles determined =
+    let followed : follows meanings doc 1 es ≡ true = both_true (both_true run (kept_whole doc.shape doc.scripts es done.scripts)) kept in
+    (one-result meanings doc bodies 1 es singles fits determined followed (done_whole doc.shape doc.scripts es done.scripts) done.settled).0
+
+-- what the command `plain` leaves shows it
+pub plain_shows : (shelf : List (List ℕ)) (meanings : Meanings) (options : Options) (before after : Option (List ℕ)) (kept : Kept) (status : Status) (old new : Option (List ℕ)) → IsAnswer shelf meanings (Some options) before after kept status old new → status ≡ S.Done → ShowsMeaning meanings kept
+plain_shows shelf meanings options before after kept status old new answer same singles doc is determined =
+    let legal = answer.legal options doc refl is in
+    let done = answer.done same in
+    let alike : done.doc ≡ doc = same_doc kept.doc done.doc doc done.is is in
+    let whole : IsDone doc kept.journal = subst (λ (d : Doc). IsDone d kept.journal) alike done.done in
+    let read : IsRead shelf before after (Ok doc) = read_of kept.doc doc is answer.document.read in
+    shows_meaning meanings (length shelf) doc kept.journal (read_fits OFFERED shelf read.bytes doc read.is) legal.legal legal.bodies whole singles determined
+  where
+    same_doc : (o : Option Doc) (d e : Doc) → o ≡ Some d → o ≡ Some e → d ≡ e
+    same_doc None d e p q = cc
+    same_doc (Some x) d e p q = cc
+
+    read_of : (o : Option Doc) (d : Doc) → o ≡ Some d → IfSome o (λ x. IsRead shelf before after (Ok x)) → IsRead shelf before after (Ok d)
+    read_of None d p r = cc
+    read_of (Some x) d p r = let e : x ≡ d = cc in subst (λ (y : Doc). IsRead shelf before after (Ok y)) e r
+
+pub unlike_none : (o : Option Doc) (doc : Doc) → o ≡ None → o ≡ Some doc → ⊥
+unlike_none None doc p q = cc
+unlike_none (Some d) doc p q = cc
+
+-- without a document there is nothing to show
+none_shows : (meanings : Meanings) (kept : Kept) → kept.doc ≡ None → ShowsMeaning meanings kept
+none_shows meanings kept none singles doc is determined = absurd (unlike_none kept.doc doc none is)
+
+-- what the command `gen` leaves shows it
+pub gen_shows : (shelf : List (List ℕ)) (meanings : Meanings) (asked : Option Generating) (kept : Kept) (status : Status) (old new : Option (List ℕ)) → IsGenAnswer shelf meanings asked kept status old new → status ≡ S.Done → ShowsMeaning meanings kept
+gen_shows shelf meanings asked kept status old new answer same = by_asked asked refl answer.kept
+  where
+    same_doc : (o : Option Doc) (d e : Doc) → o ≡ Some d → o ≡ Some e → d ≡ e
+    same_doc None d e p q = cc
+    same_doc (Some x) d e p q = cc
+
+    run_of : (count : ℕ) (o : Option Doc) (d : Doc) → o ≡ Some d → IfSome o (λ x. RunsNumber shelf meanings count x kept.journal) → RunsNumber shelf meanings count d kept.journal
+    run_of count None d p r = cc
+    run_of count (Some x) d p r = let e : x ≡ d = cc in subst (λ (y : Doc). RunsNumber shelf meanings count y kept.journal) e r
+
+    by_text : (g : Generating) → asked ≡ Some g → (b : Bool) → g.text ≡ b → KeepsAsked shelf meanings b g.count kept → ShowsMeaning meanings kept
+    by_text g is true text keeps = none_shows meanings kept keeps.document
+    by_text g is false text keeps = λ singles doc at determined.
+        let has = answer.done g is text same in
+        let alike : has.doc ≡ doc = same_doc kept.doc has.doc doc has.is at in
+        let whole : IsDone doc kept.journal = subst (λ (d : Doc). IsDone d kept.journal) alike has.done in
+        let runs = run_of g.count kept.doc doc at keeps.document in
+        shows_meaning meanings (length shelf) doc kept.journal (found_fits shelf g.count doc runs.is) runs.run.legal runs.run.bodies whole singles determined
+
+    by_asked : (o : Option Generating) → asked ≡ o → KeepsGenerated shelf meanings o kept → ShowsMeaning meanings kept
+    by_asked None is keeps = none_shows meanings kept keeps.document
+    by_asked (Some g) is keeps = by_text g is g.text refl keeps
