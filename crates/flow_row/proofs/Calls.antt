@@ -1,11 +1,14 @@
 -- What a chair of the row may do after a call.
-use Rattle.std.proofs.Common.{◌≡◌, ℕ, ◌<◌, length, length-append, zero, suc, ◌≤◌, nat_lt, lt-ltb, map, arith, Option, Some, None, Bool, true, false, not, ◌&&◌, ◌||◌, List, [], ◌∷◌, ◌++◌, refl, sym, ap, ◌∙◌, subst, All}
+use Rattle.std.proofs.Common.{◌≡◌, ℕ, ◌<◌, length, length-append, zero, suc, ◌≤◌, nat_lt, lt-ltb, map, arith, Option, Some, None, Bool, true, false, not, ◌&&◌, ◌||◌, List, [], ◌∷◌, ◌++◌, refl, sym, ap, ◌∙◌, subst, All, Result, Ok, Err, IfOk, IfErr}
 use Rattle.std.specs.Prelude.{is_none}
 use Rattle.std.specs.List.{list_any, list_all}
 use Rattle.std.proofs.lemmas.List.Folds.{list_any-append}
 use Rattle.std.proofs.lemmas.List.{map-append}
 use Rattle.std.proofs.lemmas.List.Elements.{All-nil, All-push, All-same, All-pop, All-append, All-weaker}
 use Rattle.flow_item.specs.declared.event.Event.{Event}
+use Rattle.flow_item.specs.declared.event.Event.TheVariants as E
+use Rattle.flow_item.specs.declared.event.PutAnswer.{PutAnswer}
+use Rattle.flow_item.specs.declared.val.Val.{Val}
 use Rattle.flow_item.specs.declared.event.Stop.{Stop}
 use Rattle.flow_item.specs.declared.event.Stop.TheVariants.{Limit, Memory}
 use Rattle.flow_item.specs.declared.event.Party.{Party}
@@ -57,6 +60,12 @@ caller-halted c d Meant Limit h is =
     let stopped : a.IsStopped c h.0 d = h.2 in
     caller-kept c d stopped.rest is
 caller-halted c d Meant Memory h is = caller-kept c d h.0 is
+
+-- a caller that put goes on, and so does one whose put was stopped
+pub caller-put : (c d : Sitting Event Run) (r : Result PutAnswer Stop) (n node port tag : ℕ) (v : Val) (Meant : Event → Type 0)
+    → IfOk r (λ p. a.IsDone c (E.Put n node port tag v p) d) → IfErr r (λ s. a.IsHalted c Meant d s) → IsCaller c → IsCaller d
+caller-put c d (Ok p) n node port tag v Meant made stopped is = caller-on c d (E.Put n node port tag v p) made is refl
+caller-put c d (Err s) n node port tag v Meant made stopped is = caller-halted c d Meant s stopped is
 
 -- ---- a worker
 

@@ -65,14 +65,7 @@ impl<B: Naming> Pair<B> {
     fn serve<R: Wait + Abort>(&mut self, rt: &R, alloc: Global, row: &Row<B>, node: u32) -> bool
         requires { node < 2 }
     {
-        let Ok(did) = row.book.serve(alloc, rt, &mut self.worker, node, &NoGate) else {
-            panic!(rt; "an event was stopped")
-        };
-        match did {
-            Did::Event { .. } => true,
-            Did::Rest => false,
-            Did::Start(_) => panic!(rt; "a queue has no bodies"),
-        }
+        serve(rt, alloc, row, &mut self.worker, node)
     }
 
     // Serves both queues. Whether there was an event.
@@ -113,6 +106,28 @@ impl<B: Naming> Pair<B> {
     // The first refusal.
     fn stopped<R: Wait>(&mut self, rt: &R, row: &Row<B>) -> Option<Stop> {
         row.book.stopped(rt, &mut self.worker)
+    }
+}
+
+// Serves a queue. Whether there was an event.
+fn serve<B: Naming, R: Wait + Abort>(
+    rt: &R,
+    alloc: Global,
+    row: &Row<B>,
+    w: &mut Chair<GraphMachine, B>,
+    node: u32,
+) -> bool
+    requires worker { IsWorker w.old }
+    requires node { node < 2 }
+    ensures { IsWorker w.new }
+{
+    let Ok(did) = row.book.serve(alloc, rt, w, node, &NoGate) else {
+        panic!(rt; "an event was stopped")
+    };
+    match did {
+        Did::Event { .. } => true,
+        Did::Rest => false,
+        Did::Start(_) => panic!(rt; "a queue has no bodies"),
     }
 }
 

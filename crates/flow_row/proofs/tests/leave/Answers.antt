@@ -3,10 +3,10 @@ use Rattle.flow_row.proofs.Calls.{of-book, calls-book}
 use Rattle.flow_row.proofs.tests.leave.Goals as goal
 
 pub leave-requires-clause-of : goal.leave-requires-clause-of
-leave-requires-clause-of g c = of-book c.args.row.now.book.run c.args.row.now.book.items c.args.row.now.book.events c.args.c.now c.args.row.now.run c.args.row.now.limits c.requires.0
+leave-requires-clause-of g c = λ κs lives. of-book c.args.row.now.book.run c.args.row.now.book.items c.args.row.now.book.events c.args.c.now c.args.row.now.run c.args.row.now.limits c.requires.0
 
 pub leave-requires-clause-caller : goal.leave-requires-clause-caller
-leave-requires-clause-caller g c = calls-book c.args.row.now.book.run c.args.c.now c.args.row.now.run c.requires
+leave-requires-clause-caller g c = λ κs lives. calls-book c.args.row.now.book.run c.args.c.now c.args.row.now.run c.requires
 
-pub returns-in-Ok : goal.returns-in-Ok
-returns-in-Ok g c = c.in-Ok.ensures.made.about ∙ c.requires.0
+pub returns : goal.returns
+returns g c = c.in-Ok.ensures.made.about ∙ c.requires.0

@@ -2,7 +2,7 @@ use Rattle.flow_row.proofs.Calls.{of-book, worker-on}
 use Rattle.flow_row.proofs.tests.Pair.left.Goals as goal
 
 pub left-requires : goal.left-requires
-left-requires g c = of-book c.args.row.now.book.run c.args.row.now.book.items c.args.row.now.book.events c.args.self.now.worker c.args.row.now.run c.args.row.now.limits c.args.self.now.worker_of
+left-requires g c = record { of = of-book c.args.row.now.book.run c.args.row.now.book.items c.args.row.now.book.events c.args.self.now.worker c.args.row.now.run c.args.row.now.limits c.args.self.now.worker_of }
 
 pub invariant_of-self : goal.invariant_of-self
 invariant_of-self g c =
