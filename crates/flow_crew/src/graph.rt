@@ -1,0 +1,84 @@
+//! What the callers and workers of a graph share.
+ghost use Rattle.std.specs.Prelude.{◌≡◌, ◌<◌, true, length, OnOk};
+ghost use Rattle.std.specs.List.{list_all};
+ghost use Rattle.flow_shape.specs.Rules.{IsValid};
+ghost use Rattle.flow_doc.specs.Fits.{kind_fits};
+ghost use Rattle.flow_node.specs.Built.{is_built};
+ghost use Rattle.flow_pool.specs.Posts.{IsPostOf};
+ghost use Rattle.flow_book.specs.Answers.{about_of, IsSame};
+ghost use Rattle.flow_book.specs.Stopped.{Shows, KeepsRefused};
+
+use crate::bell::Bell;
+use flow_body::Shelf;
+use flow_book::{Book, Gate, GraphMachine};
+use flow_doc::Doc;
+use flow_item::Stop;
+use flow_line::{Chair, Naming};
+use flow_pool::{Pool, Post};
+use std::sync::Wait;
+
+/// A document's nodes behind their locks, the pool of those that may have work, and the bodies.
+#[derive(Drop)]
+pub struct Graph<'a, G: Gate, B: Naming> {
+    pub(crate) doc: &'a Doc,
+    pub(crate) book: Book<B>,
+    pub(crate) pool: Pool,
+    pub(crate) shelf: &'a Shelf,
+    pub(crate) gate: &'a G,
+    pub(crate) bell: Bell,
+    // How many callers there are.
+    pub(crate) callers: u32,
+    ghost shaped: { book.run.shape ≡ doc.now.shape },
+    ghost scripted: { book.run.callers ≡ length doc.now.scripts },
+    ghost counted: { callers ≡ book.run.callers },
+    ghost pooled: { pool.nodes ≡ length book.run.shape.nodes },
+    ghost built: { list_all is_built book.run.shape.nodes ≡ true },
+    ghost shelved: { list_all (kind_fits (length shelf.now.bodies.items)) book.run.shape.nodes ≡ true },
+}
+
+impl<'a, G: Gate, B: Naming> Graph<'a, G, B> {
+    // Puts a node that may have work into the post's own queue.
+    pub(crate) fn push<R: Wait>(&self, rt: &R, post: &mut Post, node: u32) -> Result<(), Stop>
+        requires post { IsPostOf self.now.pool post.old }
+        requires node { node < length self.now.book.run.shape.nodes }
+        ensures { IsPostOf self.now.pool post.new }
+    {
+        match self.pool.push(post, node) {
+            Ok(()) => Ok(()),
+            Err(_) => {
+                self.book.halt(rt);
+                Err(Stop::Memory)
+            }
+        }
+    }
+
+    // Puts a node that may have work where all look. Where there is no memory for it, the graph is halted.
+    pub(crate) fn inject<R: Wait>(&self, rt: &R, post: &mut Post, node: u32)
+        requires post { IsPostOf self.now.pool post.old }
+        requires node { node < length self.now.book.run.shape.nodes }
+        ensures { IsPostOf self.now.pool post.new }
+    {
+        match self.pool.inject(rt, post, node) {
+            Ok(()) => self.bell.ring(),
+            Err(_) => {
+                self.book.halt(rt);
+                self.bell.ring_all();
+            }
+        }
+    }
+
+    // The first refusal, which stands behind its lock before a refused call answers.
+    pub(crate) fn refusal<R: Wait>(&self, rt: &R, c: &mut Chair<GraphMachine, B>) -> Stop
+        requires { KeepsRefused c.old }
+        ensures shown { Shows c.new result }
+        ensures same { IsSame c.old c.new }
+    {
+        self.bell.ring_all();
+        for _ in rt.forever() {
+            if let Some(stop) = self.book.stopped(rt, c) {
+                return stop;
+            }
+        }
+        unreachable!()
+    }
+}

@@ -1,0 +1,307 @@
+//! A worker of a graph.
+ghost use Rattle.std.specs.Prelude.{◌≡◌, ◌<◌, true, false, length, IfSome, IfNone, IsOk, OnOk, Some};
+ghost use mathlib.Core.List.{IsPrefix};
+ghost use Rattle.flow_machine.specs.Machine.{Task, task_of};
+ghost use Rattle.flow_pool.specs.Posts.{IsPostOf};
+ghost use Rattle.flow_book.specs.Answers.{IsSame};
+ghost use Rattle.flow_book.specs.Jobs.{RunsJob, is_submit};
+ghost use Rattle.flow_crew.specs.Crew.{HasBody, HasWorked, IsEnded, IsWorker, is_refused};
+
+use crate::graph::Graph;
+use crate::waited::Waited;
+use flow_book::{Did, Gate, GraphMachine, Job, Point};
+use flow_item::{Outs, Stop};
+use flow_line::{Chair, Naming};
+use flow_pool::Post;
+use std::alloc::Global;
+use std::sync::Wait;
+
+/// Who serves the nodes of a graph and runs their bodies.
+#[derive(Drop)]
+pub struct Worker<B: Naming> {
+    pub(crate) chair: Chair<GraphMachine, B>,
+    pub(crate) post: Post,
+    // A body of it couldn't be ended, and runs for ever.
+    pub(crate) busy: bool,
+    // It made events since it last told that nothing is open.
+    pub(crate) worked: bool,
+}
+
+// What became of one turn of a worker.
+#[derive(Clone, Copy, Debug)]
+pub(crate) enum Turn {
+    // A node was served.
+    Served,
+    // Something was refused.
+    Refused,
+    // No node was found. It listens since before it looked last, and this was then the bell's last ring.
+    Idle(u32),
+}
+
+impl<B: Naming> Worker<B> {
+    // Serves a node of the pool.
+    pub(crate) fn turn<R: Wait, G: Gate>(
+        &mut self,
+        alloc: Global,
+        rt: &R,
+        graph: &Graph<G, B>,
+    ) -> Turn
+        requires of { IsWorker graph.now.book.run graph.now.book.items graph.now.book.events self.old.chair self.old.busy }
+        requires post { IsPostOf graph.now.pool self.old.post }
+        requires idle { self.old.busy ≡ false }
+        ensures of { IsWorker graph.now.book.run graph.now.book.items graph.now.book.events self.new.chair self.new.busy }
+        ensures post { IsPostOf graph.now.pool self.new.post }
+        ensures worked { HasWorked self.old.chair self.new.chair }
+        ensures idle { is_refused result ≡ false → self.new.busy ≡ false }
+    {
+        match graph.pool.take(rt, &mut self.post) {
+            Some(node) => self.serve(alloc, rt, graph, node),
+            None => self.turn_again(alloc, rt, graph),
+        }
+    }
+
+    // Listens, and looks once more.
+    fn turn_again<R: Wait, G: Gate>(
+        &mut self,
+        alloc: Global,
+        rt: &R,
+        graph: &Graph<G, B>,
+    ) -> Turn
+        requires of { IsWorker graph.now.book.run graph.now.book.items graph.now.book.events self.old.chair self.old.busy }
+        requires post { IsPostOf graph.now.pool self.old.post }
+        requires idle { self.old.busy ≡ false }
+        ensures of { IsWorker graph.now.book.run graph.now.book.items graph.now.book.events self.new.chair self.new.busy }
+        ensures post { IsPostOf graph.now.pool self.new.post }
+        ensures worked { HasWorked self.old.chair self.new.chair }
+        ensures idle { is_refused result ≡ false → self.new.busy ≡ false }
+    {
+        let last = graph.bell.listen();
+        match graph.pool.take(rt, &mut self.post) {
+            Some(node) => {
+                graph.bell.leave();
+                graph.bell.ring();
+                self.serve(alloc, rt, graph, node)
+            }
+            None => Turn::Idle(last),
+        }
+    }
+
+    // Serves a node.
+    fn serve<R: Wait, G: Gate>(
+        &mut self,
+        alloc: Global,
+        rt: &R,
+        graph: &Graph<G, B>,
+        node: u32,
+    ) -> Turn
+        requires of { IsWorker graph.now.book.run graph.now.book.items graph.now.book.events self.old.chair self.old.busy }
+        requires post { IsPostOf graph.now.pool self.old.post }
+        requires idle { self.old.busy ≡ false }
+        requires node { node < length graph.now.book.run.shape.nodes }
+        ensures of { IsWorker graph.now.book.run graph.now.book.items graph.now.book.events self.new.chair self.new.busy }
+        ensures post { IsPostOf graph.now.pool self.new.post }
+        ensures worked { HasWorked self.old.chair self.new.chair }
+        ensures idle { is_refused result ≡ false → self.new.busy ≡ false }
+    {
+        let Ok(did) = graph
+            .book
+            .serve(alloc, rt, &mut self.chair, node, graph.gate)
+        else {
+            return Turn::Refused;
+        };
+        let served = match did {
+            Did::Rest => Ok(()),
+            Did::Event { first, second } => self.push(rt, graph, first, second),
+            Did::Start(job) => self.work(alloc, rt, graph, job),
+        };
+        match served {
+            Ok(()) => Turn::Served,
+            Err(_) => Turn::Refused,
+        }
+    }
+
+    // The nodes of an event may have work.
+    fn push<R: Wait, G: Gate>(
+        &mut self,
+        rt: &R,
+        graph: &Graph<G, B>,
+        first: u32,
+        second: Option<u32>,
+    ) -> Result<(), Stop>
+        requires post { IsPostOf graph.now.pool self.old.post }
+        requires first { first < length graph.now.book.run.shape.nodes }
+        requires second { IfSome second (λ n. n < length graph.now.book.run.shape.nodes) }
+        ensures post { IsPostOf graph.now.pool self.new.post }
+        ensures same { (self.new.chair ≡ self.old.chair) × (self.new.busy ≡ self.old.busy) }
+    {
+        self.worked = true;
+        match second {
+            None => graph.push(rt, &mut self.post, first),
+            Some(second) => {
+                graph.push(rt, &mut self.post, second)?;
+                graph.bell.ring();
+                graph.push(rt, &mut self.post, first)
+            }
+        }
+    }
+
+    // Runs a job that the worker has started, while no lock is held, and ends it.
+    fn work<R: Wait, G: Gate>(
+        &mut self,
+        alloc: Global,
+        rt: &R,
+        graph: &Graph<G, B>,
+        job: Job,
+    ) -> Result<(), Stop>
+        requires of { IsWorker graph.now.book.run graph.now.book.items graph.now.book.events self.old.chair true }
+        requires post { IsPostOf graph.now.pool self.old.post }
+        requires runs { RunsJob graph.now.book.run self.old.chair job }
+        requires node { job.node < length graph.now.book.run.shape.nodes }
+        ensures of { IsWorker graph.now.book.run graph.now.book.items graph.now.book.events self.new.chair self.new.busy }
+        ensures post { IsPostOf graph.now.pool self.new.post }
+        ensures worked { HasWorked self.old.chair self.new.chair }
+        ensures idle { OnOk result (self.new.busy ≡ false) }
+    {
+        self.busy = true;
+        self.worked = true;
+        let node = job.node;
+        graph.push(rt, &mut self.post, node)?;
+        graph.bell.ring();
+        let no = job.item.id.no;
+        graph.gate.at(rt, Point::BodyBegins { node, no });
+        let answer = graph.answer(alloc, &job);
+        graph.gate.at(rt, Point::BodyEnds { node, no });
+        match answer {
+            Ok(outs) => self.finish(alloc, rt, graph, job, outs),
+            Err(_) => {
+                graph.book.halt(rt);
+                Err(Stop::Memory)
+            }
+        }
+    }
+
+    // Ends a job with these messages.
+    fn finish<R: Wait, G: Gate>(
+        &mut self,
+        alloc: Global,
+        rt: &R,
+        graph: &Graph<G, B>,
+        job: Job,
+        outs: Outs,
+    ) -> Result<(), Stop>
+        requires of { IsWorker graph.now.book.run graph.now.book.items graph.now.book.events self.old.chair self.old.busy }
+        requires post { IsPostOf graph.now.pool self.old.post }
+        requires busy { self.old.busy ≡ true }
+        requires runs { RunsJob graph.now.book.run self.old.chair job }
+        requires body { is_submit job.body ≡ false }
+        requires node { job.node < length graph.now.book.run.shape.nodes }
+        ensures of { IsWorker graph.now.book.run graph.now.book.items graph.now.book.events self.new.chair self.new.busy }
+        ensures post { IsPostOf graph.now.pool self.new.post }
+        ensures worked { HasWorked self.old.chair self.new.chair }
+        ensures idle { OnOk result (self.new.busy ≡ false) }
+    {
+        let node = job.node;
+        match graph
+            .book
+            .finish(alloc, rt, &mut self.chair, job, outs, graph.gate)
+        {
+            Ok(()) => {
+                self.busy = false;
+                graph.push(rt, &mut self.post, node)
+            }
+            Err(unfinished) => Err(unfinished.stop),
+        }
+    }
+
+    // Tells those who listen that nothing is open, where it is the worker's news.
+    pub(crate) fn tell_quiet<G: Gate>(&mut self, graph: &Graph<G, B>)
+        ensures { (self.new.chair ≡ self.old.chair) × (self.new.busy ≡ self.old.busy) × (self.new.post ≡ self.old.post) }
+    {
+        if self.worked {
+            self.worked = false;
+            graph.bell.ring_all();
+        }
+    }
+
+    // Whether the work has ended, and how.
+    fn ended<R: Wait, G: Gate>(&mut self, rt: &R, graph: &Graph<G, B>) -> Option<Waited>
+        requires of { IsWorker graph.now.book.run graph.now.book.items graph.now.book.events self.old.chair self.old.busy }
+        requires post { IsPostOf graph.now.pool self.old.post }
+        ensures of { IsWorker graph.now.book.run graph.now.book.items graph.now.book.events self.new.chair self.new.busy }
+        ensures post { IsPostOf graph.now.pool self.new.post }
+        ensures worked { HasWorked self.old.chair self.new.chair }
+        ensures busy { self.new.busy ≡ self.old.busy }
+        ensures ended { IfSome result (λ w. IsEnded graph.now.book.run self.old.chair w self.new.chair) }
+    {
+        if let Some(stop) = graph.book.stopped(rt, &mut self.chair) {
+            return Some(Waited::Halted(stop));
+        }
+        let left = graph.book.left(rt, &mut self.chair);
+        if graph.book.unrest(rt, &mut self.chair) != 0 {
+            return None;
+        }
+        self.tell_quiet(graph);
+        if left == graph.callers {
+            Some(Waited::Quiet)
+        } else {
+            None
+        }
+    }
+
+    // One round of the work.
+    fn round<R: Wait, G: Gate>(
+        &mut self,
+        alloc: Global,
+        rt: &R,
+        graph: &Graph<G, B>,
+    ) -> Option<Waited>
+        requires of { IsWorker graph.now.book.run graph.now.book.items graph.now.book.events self.old.chair self.old.busy }
+        requires post { IsPostOf graph.now.pool self.old.post }
+        requires idle { self.old.busy ≡ false }
+        ensures of { IsWorker graph.now.book.run graph.now.book.items graph.now.book.events self.new.chair self.new.busy }
+        ensures post { IsPostOf graph.now.pool self.new.post }
+        ensures worked { HasWorked self.old.chair self.new.chair }
+        ensures idle { IfNone result (self.new.busy ≡ false) }
+        ensures ended { IfSome result (λ w. IsEnded graph.now.book.run self.old.chair w self.new.chair) }
+    {
+        match self.turn(alloc, rt, graph) {
+            Turn::Served => None,
+            Turn::Refused => Some(Waited::Halted(graph.refusal(rt, &mut self.chair))),
+            Turn::Idle(last) => match self.ended(rt, graph) {
+                Some(waited) => {
+                    graph.bell.leave();
+                    Some(waited)
+                }
+                None => {
+                    graph.bell.sleep(rt, last);
+                    None
+                }
+            },
+        }
+    }
+
+    /// Works until all callers have left and nothing is open, or a call is refused.
+    pub fn run<R: Wait, G: Gate>(
+        &mut self,
+        alloc: Global,
+        rt: &R,
+        graph: &Graph<G, B>,
+    ) -> Waited
+        requires of { IsWorker graph.now.book.run graph.now.book.items graph.now.book.events self.old.chair self.old.busy }
+        requires post { IsPostOf graph.now.pool self.old.post }
+        ensures of { IsWorker graph.now.book.run graph.now.book.items graph.now.book.events self.new.chair self.new.busy }
+        ensures post { IsPostOf graph.now.pool self.new.post }
+        ensures worked { HasWorked self.old.chair self.new.chair }
+        ensures ended { IsEnded graph.now.book.run self.old.chair result self.new.chair }
+    {
+        if self.busy {
+            return Waited::Halted(graph.refusal(rt, &mut self.chair));
+        }
+        for _ in rt.forever() {
+            if let Some(waited) = self.round(alloc, rt, graph) {
+                return waited;
+            }
+        }
+        unreachable!()
+    }
+}
