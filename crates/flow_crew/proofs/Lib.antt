@@ -1,4 +1,6 @@
+pub mod Keeps
 pub mod Lists
 pub mod Seen
+pub mod Shelved
 pub mod Stays
 pub mod Works

@@ -35,3 +35,15 @@ one-shorter xs ys x h = ap length h ∙ length-append ys (x ∷ [])
 pub empty-of : {A : Type 0} (xs : List A) → length xs ≡ 0 → xs ≡ []
 empty-of [] h = refl
 empty-of (x ∷ xs) h = let never : ⊥ = omega (arith, h) in absurd never
+
+-- one more is given back to a list, from the end of those that were taken
+pub one-given : {A B : Type 0} (f : A → B) (old new : List B) (xs ys : List A) (x : A) → xs ≡ ys ++ x ∷ [] → new ≡ old ++ f x ∷ [] → new ++ reverse (map f ys) ≡ old ++ reverse (map f xs)
+one-given f old new xs ys x last more =
+    let turned : reverse (map f xs) ≡ f x ∷ reverse (map f ys) = ap (λ l. reverse (map f l)) last ∙ (ap reverse (map-append f ys (x ∷ [])) ∙ reverse-append (map f ys) (f x ∷ [])) in
+    ap (λ l. l ++ reverse (map f ys)) more ∙ (append_assoc old (f x ∷ []) (reverse (map f ys)) ∙ ap (λ l. old ++ l) (sym turned))
+
+-- all are given back
+pub all-given : {A B : Type 0} (f : A → B) (old new : List B) (all xs : List A) → new ++ reverse (map f xs) ≡ old ++ reverse (map f all) → length xs ≡ 0 → new ≡ old ++ reverse (map f all)
+all-given f old new all xs h none =
+    let left : xs ≡ [] = empty-of xs none in
+    sym (append-nil new) ∙ (ap (λ l. new ++ reverse (map f l)) (sym left) ∙ h)

@@ -9,6 +9,7 @@ use Rattle.flow_item.specs.declared.event.Stop.{Stop}
 use Rattle.flow_item.specs.declared.event.Stop.TheVariants.{Limit, Memory}
 use Rattle.flow_item.specs.declared.item.Msg.{Msg}
 use Rattle.flow_item.proofs.Journals.{replay-append}
+use Rattle.flow_item.proofs.Tests.{both_true}
 use Rattle.flow_machine.specs.Machine.{Task, task_of, task_after}
 use Rattle.flow_line.specs.declared.view.About.{About}
 use Rattle.flow_line.specs.Values.{Sitting}
@@ -17,7 +18,7 @@ use Rattle.flow_book.specs.declared.machine.Run.{Run}
 use Rattle.flow_book.specs.declared.job.Job.{Job}
 use Rattle.flow_book.specs.declared.serve.Did.TheVariants as D
 use Rattle.flow_book.specs.Answers.{about_of, kept_first, IsKept, IsSame, IsDone, IsStopped, IsHalted}
-use Rattle.flow_book.specs.Callers.{is_caller_of, is_worker_about}
+use Rattle.flow_book.specs.Callers.{is_caller_of, is_worker_about, is_idle_worker}
 use Rattle.flow_book.specs.Jobs.{IsJob, RunsJob}
 use Rattle.flow_book.specs.Serving.{IsServed}
 use Rattle.flow_book.specs.Stopped.{PassesKept, KeepsRefused}
@@ -150,3 +151,6 @@ runs-started run items events n c d job s about =
     let task : task_of d.own ≡ Some (n, job.item.id.no) = task-after c d (E.Start _ n job.item.id.no) s.0 in
     let same : task_of d.own ≡ Some (job.node, job.item.id.no) = task ∙ ap (λ (m : ℕ). let t : Task = Some (m, job.item.id.no) in t) (sym s.1) in
     (same, (here.0, here.1, here.2))
+
+pub idle-worker : (run : Run) (items events : ℕ) (c : Sitting Event Run) (busy : Bool) → IsWorker run items events c busy → busy ≡ false → is_idle_worker c ≡ true
+idle-worker run items events c busy w h = both_true {a = is_worker_about c.about c.party} w.worker (w.idle h)

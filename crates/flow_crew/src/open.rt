@@ -93,7 +93,7 @@ fn hire_callers<B: Naming>(
     ensures all { OnOk result (All (IsPostOf pool.now) posts.new.items) }
 {
     let mut callers = Vec::new(alloc);
-    for _ in 0..count {
+    'hire: while callers.len() < count as usize {
         let chair = last_chair(chairs);
         let worker = last_worker(pool, workers, posts);
         callers.push(Caller { chair, worker })?;
@@ -119,7 +119,7 @@ fn hire_workers<B: Naming>(
     ensures new { IfOk result (λ v. All (λ w. IsPostOf pool.now w.post × (w.busy ≡ false)) v.items) }
 {
     let mut workers = Vec::new(alloc);
-    for _ in 0..count {
+    'hire: while workers.len() < count as usize {
         workers.push(last_worker(pool, chairs, posts))?;
     }
     workers.as_mut_slice().reverse();
