@@ -1,5 +1,6 @@
 pub mod Keeps
 pub mod Lists
+pub mod Quiet
 pub mod Seen
 pub mod Shelved
 pub mod Stays

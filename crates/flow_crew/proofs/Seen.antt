@@ -24,8 +24,9 @@ use Rattle.flow_book.specs.Serving.{AreNodes}
 use Rattle.flow_book.specs.Unrest.{most}
 use Rattle.flow_book.proofs.Whole.{legal-run}
 use Rattle.flow_book.proofs.Serves.{same-on}
-use Rattle.flow_crew.specs.Crew.{IsEnded, HasWorked}
-use Rattle.flow_crew.proofs.Works.{worked-none}
+use Rattle.flow_crew.specs.Crew.{IsEnded, IsWaited, HasWorked}
+use Rattle.flow_crew.proofs.Works.{worked-on, worked-kept}
+use Rattle.flow_crew.specs.declared.waited.Waited.{Waited}
 use Rattle.flow_crew.specs.declared.waited.Waited.TheVariants as W
 
 -- it is a journal of the run
@@ -71,3 +72,28 @@ all-left run items events c d p about l is =
 
 pub none-open : (n : ℕ) → most n ≡ 0 → n ≡ 0
 none-open n h = omega (arith, h)
+
+-- ---- how work and waits end
+
+-- what ended after some work ended after all of it
+pub ended-later : (run : Run) (a c d : Sitting Event Run) (w : Waited) → HasWorked a c → IsEnded run c w d → IsEnded run a w d
+ended-later run a c d W.Quiet h e = ((e.0.0, worked-on a c e.0.0 h e.0.1, e.0.2, e.0.3), e.1, e.2)
+ended-later run a c d (W.Halted stop) h e = e
+
+-- first nothing was refused, then all callers had left, and then nothing was open
+pub quiet-ended : (run : Run) (items events : ℕ) (c b a d : Sitting Event Run) (left : ℕ) → IsSame c b → IsSame b a → IsSame a d → a.looks < d.looks → c.about ≡ about_of run items events
+    → line.is_legal parties_of births_of run_allows d.about d.seen ≡ true → left ≡ count_by is_leave a.seen → left ≡ run.callers → most (open_after run.shape d.seen) ≡ 0 → IsEnded run c W.Quiet d
+quiet-ended run items events c b a d left cb ba ad looks about l counted all none = (
+  (a, worked-kept c a (same-on c b a cb ba).0, ad, looks),
+  all-left run items events a d ad.0.seen ((ad.0.about ∙ (ba.0.about ∙ cb.0.about)) ∙ about) l (sym counted ∙ all),
+  none-open (open_after run.shape d.seen) none,
+)
+
+-- the same for a caller that waits
+pub quiet-waited : (run : Run) (c b d : Sitting Event Run) → IsSame c b → b.looks < d.looks → most (open_after run.shape d.seen) ≡ 0 → IsWaited run c W.Quiet d
+quiet-waited run c b d cb looks none = (let le = cb.0.looks in omega (arith, le, looks), none-open (open_after run.shape d.seen) none)
+
+-- what was waited for after the chair had seen more
+pub waited-later : (run : Run) (a c d : Sitting Event Run) (w : Waited) → IsSame a c → IsWaited run c w d → IsWaited run a w d
+waited-later run a c d W.Quiet s h = (let le = s.0.looks in let more = h.0 in omega (arith, le, more), h.1)
+waited-later run a c d (W.Halted stop) s h = h

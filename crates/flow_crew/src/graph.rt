@@ -1,5 +1,5 @@
 //! What the callers and workers of a graph share.
-ghost use Rattle.std.specs.Prelude.{◌≡◌, ◌<◌, true, length, OnOk};
+ghost use Rattle.std.specs.Prelude.{◌≡◌, ◌<◌, true, length, IfSome};
 ghost use Rattle.std.specs.List.{list_all};
 ghost use Rattle.flow_shape.specs.Rules.{IsValid};
 ghost use Rattle.flow_doc.specs.Fits.{kind_fits};
@@ -37,17 +37,42 @@ pub struct Graph<'a, G: Gate, B: Naming> {
 }
 
 impl<'a, G: Gate, B: Naming> Graph<'a, G, B> {
-    // Puts a node that may have work into the post's own queue.
-    pub(crate) fn push<R: Wait>(&self, rt: &R, post: &mut Post, node: u32) -> Result<(), Stop>
+    // Puts a node that may have work into the post's own queue. Where there is no memory for it, the graph is halted.
+    pub(crate) fn push<R: Wait>(&self, rt: &R, post: &mut Post, node: u32) -> bool
         requires post { IsPostOf self.now.pool post.old }
         requires node { node < length self.now.book.run.shape.nodes }
         ensures { IsPostOf self.now.pool post.new }
     {
         match self.pool.push(post, node) {
-            Ok(()) => Ok(()),
+            Ok(()) => true,
             Err(_) => {
                 self.book.halt(rt);
-                Err(Stop::Memory)
+                false
+            }
+        }
+    }
+
+    // The same for the nodes of an event. Where there are two, another may look after one of them.
+    pub(crate) fn push_nodes<R: Wait>(
+        &self,
+        rt: &R,
+        post: &mut Post,
+        first: u32,
+        second: Option<u32>,
+    ) -> bool
+        requires post { IsPostOf self.now.pool post.old }
+        requires first { first < length self.now.book.run.shape.nodes }
+        requires second { IfSome second (λ n. n < length self.now.book.run.shape.nodes) }
+        ensures { IsPostOf self.now.pool post.new }
+    {
+        match second {
+            None => self.push(rt, post, first),
+            Some(second) => {
+                if !self.push(rt, post, second) {
+                    return false;
+                }
+                self.bell.ring();
+                self.push(rt, post, first)
             }
         }
     }

@@ -1,16 +1,13 @@
 //! A worker of a graph.
-ghost use Rattle.std.specs.Prelude.{◌≡◌, ◌<◌, true, false, length, IfSome, IfNone, IsOk, OnOk, Some};
-ghost use mathlib.Core.List.{IsPrefix};
-ghost use Rattle.flow_machine.specs.Machine.{Task, task_of};
+ghost use Rattle.std.specs.Prelude.{◌≡◌, ◌<◌, true, false, not, length, IfSome, IfNone};
 ghost use Rattle.flow_pool.specs.Posts.{IsPostOf};
-ghost use Rattle.flow_book.specs.Answers.{IsSame};
 ghost use Rattle.flow_book.specs.Jobs.{RunsJob, is_submit};
-ghost use Rattle.flow_crew.specs.Crew.{HasBody, HasWorked, IsEnded, IsWorker, is_refused};
+ghost use Rattle.flow_crew.specs.Crew.{HasWorked, IsEnded, IsWorker, is_refused};
 
 use crate::graph::Graph;
 use crate::waited::Waited;
-use flow_book::{Did, Gate, GraphMachine, Job, Point};
-use flow_item::{Outs, Stop};
+use flow_book::{Did, Gate, GraphMachine, Job};
+use flow_item::Outs;
 use flow_line::{Chair, Naming};
 use flow_pool::Post;
 use std::alloc::Global;
@@ -36,6 +33,13 @@ pub(crate) enum Turn {
     Refused,
     // No node was found. It listens since before it looked last, and this was then the bell's last ring.
     Idle(u32),
+}
+
+// Whether all went well.
+fn turn_of(well: bool) -> Turn
+    ensures { is_refused result ≡ not well }
+{
+    if well { Turn::Served } else { Turn::Refused }
 }
 
 impl<B: Naming> Worker<B> {
@@ -109,39 +113,14 @@ impl<B: Naming> Worker<B> {
         else {
             return Turn::Refused;
         };
-        let served = match did {
-            Did::Rest => Ok(()),
-            Did::Event { first, second } => self.push(rt, graph, first, second),
-            Did::Start(job) => self.work(alloc, rt, graph, job),
-        };
-        match served {
-            Ok(()) => Turn::Served,
-            Err(_) => Turn::Refused,
-        }
-    }
-
-    // The nodes of an event may have work.
-    fn push<R: Wait, G: Gate>(
-        &mut self,
-        rt: &R,
-        graph: &Graph<G, B>,
-        first: u32,
-        second: Option<u32>,
-    ) -> Result<(), Stop>
-        requires post { IsPostOf graph.now.pool self.old.post }
-        requires first { first < length graph.now.book.run.shape.nodes }
-        requires second { IfSome second (λ n. n < length graph.now.book.run.shape.nodes) }
-        ensures post { IsPostOf graph.now.pool self.new.post }
-        ensures same { (self.new.chair ≡ self.old.chair) × (self.new.busy ≡ self.old.busy) }
-    {
-        self.worked = true;
-        match second {
-            None => graph.push(rt, &mut self.post, first),
-            Some(second) => {
-                graph.push(rt, &mut self.post, second)?;
-                graph.bell.ring();
-                graph.push(rt, &mut self.post, first)
+        let _ = self.chair.len();
+        match did {
+            Did::Rest => Turn::Served,
+            Did::Event { first, second } => {
+                self.worked = true;
+                turn_of(graph.push_nodes(rt, &mut self.post, first, second))
             }
+            Did::Start(job) => self.work(alloc, rt, graph, job),
         }
     }
 
@@ -152,7 +131,7 @@ impl<B: Naming> Worker<B> {
         rt: &R,
         graph: &Graph<G, B>,
         job: Job,
-    ) -> Result<(), Stop>
+    ) -> Turn
         requires of { IsWorker graph.now.book.run graph.now.book.items graph.now.book.events self.old.chair true }
         requires post { IsPostOf graph.now.pool self.old.post }
         requires runs { RunsJob graph.now.book.run self.old.chair job }
@@ -160,23 +139,17 @@ impl<B: Naming> Worker<B> {
         ensures of { IsWorker graph.now.book.run graph.now.book.items graph.now.book.events self.new.chair self.new.busy }
         ensures post { IsPostOf graph.now.pool self.new.post }
         ensures worked { HasWorked self.old.chair self.new.chair }
-        ensures idle { OnOk result (self.new.busy ≡ false) }
+        ensures idle { is_refused result ≡ false → self.new.busy ≡ false }
     {
         self.busy = true;
         self.worked = true;
-        let node = job.node;
-        graph.push(rt, &mut self.post, node)?;
+        if !graph.push(rt, &mut self.post, job.node) {
+            return Turn::Refused;
+        }
         graph.bell.ring();
-        let no = job.item.id.no;
-        graph.gate.at(rt, Point::BodyBegins { node, no });
-        let answer = graph.answer(alloc, &job);
-        graph.gate.at(rt, Point::BodyEnds { node, no });
-        match answer {
-            Ok(outs) => self.finish(alloc, rt, graph, job, outs),
-            Err(_) => {
-                graph.book.halt(rt);
-                Err(Stop::Memory)
-            }
+        match graph.run_job(alloc, rt, &job) {
+            Some(outs) => self.finish(alloc, rt, graph, job, outs),
+            None => Turn::Refused,
         }
     }
 
@@ -188,8 +161,8 @@ impl<B: Naming> Worker<B> {
         graph: &Graph<G, B>,
         job: Job,
         outs: Outs,
-    ) -> Result<(), Stop>
-        requires of { IsWorker graph.now.book.run graph.now.book.items graph.now.book.events self.old.chair self.old.busy }
+    ) -> Turn
+        requires of { IsWorker graph.now.book.run graph.now.book.items graph.now.book.events self.old.chair true }
         requires post { IsPostOf graph.now.pool self.old.post }
         requires busy { self.old.busy ≡ true }
         requires runs { RunsJob graph.now.book.run self.old.chair job }
@@ -198,7 +171,7 @@ impl<B: Naming> Worker<B> {
         ensures of { IsWorker graph.now.book.run graph.now.book.items graph.now.book.events self.new.chair self.new.busy }
         ensures post { IsPostOf graph.now.pool self.new.post }
         ensures worked { HasWorked self.old.chair self.new.chair }
-        ensures idle { OnOk result (self.new.busy ≡ false) }
+        ensures idle { is_refused result ≡ false → self.new.busy ≡ false }
     {
         let node = job.node;
         match graph
@@ -207,9 +180,9 @@ impl<B: Naming> Worker<B> {
         {
             Ok(()) => {
                 self.busy = false;
-                graph.push(rt, &mut self.post, node)
+                turn_of(graph.push(rt, &mut self.post, node))
             }
-            Err(unfinished) => Err(unfinished.stop),
+            Err(_) => Turn::Refused,
         }
     }
 
@@ -240,6 +213,7 @@ impl<B: Naming> Worker<B> {
         if graph.book.unrest(rt, &mut self.chair) != 0 {
             return None;
         }
+        let _ = self.chair.len();
         self.tell_quiet(graph);
         if left == graph.callers {
             Some(Waited::Quiet)
