@@ -1,6 +1,7 @@
 pub mod Keeps
 pub mod Lists
 pub mod Quiet
+pub mod Ready
 pub mod Seen
 pub mod Shelved
 pub mod Stays

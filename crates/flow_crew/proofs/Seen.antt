@@ -3,6 +3,7 @@ use Rattle.std.proofs.Common.{◌≡◌, ℕ, zero, suc, ◌+◌, ◌<◌, ◌�
 use Rattle.std.proofs.lemmas.Bool.{ltb-true}
 use Rattle.std.proofs.lemmas.List.Folds.{list_all-append}
 use Rattle.std.proofs.lemmas.List.Sums.{sum_by-append}
+use Rattle.std.proofs.lemmas.Option.{slice_get_within}
 use Rattle.std.specs.Prelude.{slice_get}
 use Rattle.std.specs.List.{list_all, count_by}
 use mathlib.Core.List.{IsPrefix}
@@ -11,6 +12,9 @@ use Rattle.flow_item.specs.declared.event.Parties.{Parties}
 use Rattle.flow_item.specs.declared.event.Party.TheVariants.{Node}
 use Rattle.flow_item.specs.Events.{parties_of, births_of}
 use Rattle.flow_item.proofs.Tests.{and_left, and_right}
+use Rattle.flow_shape.specs.declared.Kind.{Kind}
+use Rattle.flow_shape.specs.declared.Shape.{Shape}
+use Rattle.flow_shape.specs.Wiring.{is_some_and, at_node}
 use Rattle.flow_shape.proofs.Sorting.{all-at}
 use Rattle.flow_machine.specs.Machine.{is_leave, is_legal, is_of_run, is_run, is_within, second_within, open_after}
 use Rattle.flow_progress.proofs.Leaving.{callers-leave-once}
@@ -72,6 +76,14 @@ all-left run items events c d p about l is =
 
 pub none-open : (n : ℕ) → most n ≡ 0 → n ≡ 0
 none-open n h = omega (arith, h)
+
+-- a node of which something is told is there
+pub node-within : (shape : Shape) (n : ℕ) (test : Kind → Bool) → at_node shape n test ≡ true → n < length shape.nodes
+node-within shape n test h = by_kind (slice_get shape.nodes n) refl h
+  where
+    by_kind : (o : Option Kind) → slice_get shape.nodes n ≡ o → is_some_and test o ≡ true → n < length shape.nodes
+    by_kind None at h = cc
+    by_kind (Some k) at h = slice_get_within shape.nodes n k at
 
 -- ---- how work and waits end
 

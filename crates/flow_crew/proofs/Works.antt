@@ -1,7 +1,7 @@
 -- What calls of the book leave of those who work.
-use Rattle.std.proofs.Common.{◌≡◌, ℕ, ◌+◌, ◌<◌, ◌≤◌, Bool, true, false, ◌&&◌, Option, Some, None, List, [], ◌∷◌, ◌++◌, length, min, refl, sym, ap, ◌∙◌, subst, arith}
+use Rattle.std.proofs.Common.{◌≡◌, ℕ, ◌+◌, ◌<◌, ◌≤◌, Bool, true, false, not, ◌&&◌, ◌||◌, Option, Some, None, List, [], ◌∷◌, ◌++◌, length, min, refl, sym, ap, ◌∙◌, subst, arith}
 use Rattle.std.specs.Prelude.{is_none, slice_get}
-use Rattle.std.specs.List.{list_all, count_by}
+use Rattle.std.specs.List.{list_any}
 use mathlib.Core.List.{IsPrefix}
 use Rattle.flow_item.specs.declared.event.Event.{Event}
 use Rattle.flow_item.specs.declared.event.Event.TheVariants as E
@@ -9,8 +9,8 @@ use Rattle.flow_item.specs.declared.event.Stop.{Stop}
 use Rattle.flow_item.specs.declared.event.Stop.TheVariants.{Limit, Memory}
 use Rattle.flow_item.specs.declared.item.Msg.{Msg}
 use Rattle.flow_item.proofs.Journals.{replay-append}
-use Rattle.flow_item.proofs.Tests.{both_true}
-use Rattle.flow_machine.specs.Machine.{Task, task_of, task_after}
+use Rattle.flow_item.proofs.Tests.{and_left, and_right, both_true}
+use Rattle.flow_machine.specs.Machine.{Task, is_leave, task_of, task_after}
 use Rattle.flow_line.specs.declared.view.About.{About}
 use Rattle.flow_line.specs.Values.{Sitting}
 use Rattle.flow_line.proofs.Beginnings.{prefix_self, prefix_trans, prefix_snoc}
@@ -18,7 +18,7 @@ use Rattle.flow_book.specs.declared.machine.Run.{Run}
 use Rattle.flow_book.specs.declared.job.Job.{Job}
 use Rattle.flow_book.specs.declared.serve.Did.TheVariants as D
 use Rattle.flow_book.specs.Answers.{about_of, kept_first, IsKept, IsSame, IsDone, IsStopped, IsHalted}
-use Rattle.flow_book.specs.Callers.{is_caller_of, is_worker_about, is_idle_worker}
+use Rattle.flow_book.specs.Callers.{is_caller_of, is_worker_about, is_idle_worker, may_call}
 use Rattle.flow_book.specs.Jobs.{IsJob, RunsJob}
 use Rattle.flow_book.specs.Serving.{IsServed}
 use Rattle.flow_book.specs.Stopped.{PassesKept, KeepsRefused}
@@ -97,6 +97,30 @@ pub caller-halted : (run : Run) (items events : ℕ) (c d : Sitting Event Run) (
 caller-halted run items events c d Meant stop w h =
     let k = halted-kept c d Meant stop h in
     caller-on run items events c d w k.about k.party (kept-halted c d Meant stop h w.kept)
+
+none-more : (test : Event → Bool) (es : List Event) (e : Event) → list_any test es ≡ false → test e ≡ false → list_any test (es ++ e ∷ []) ≡ false
+none-more test [] e h n = ap (λ b. b || false) n
+none-more test (x ∷ xs) e h n = by_first (test x) h (none-more test xs e)
+  where
+    by_first : (b : Bool) → (b || list_any test xs) ≡ false → (list_any test xs ≡ false → test e ≡ false → list_any test (xs ++ e ∷ []) ≡ false) → (b || list_any test (xs ++ e ∷ [])) ≡ false
+    by_first true h r = cc
+    by_first false h r = r h n
+
+not-false : (b : Bool) → not b ≡ true → b ≡ false
+not-false true h = cc
+not-false false h = refl
+
+-- a caller that made an event, but didn't leave, may go on
+pub calls-done : (run : Run) (c d : Sitting Event Run) (e : Event) → may_call run c ≡ true → IsDone c e d → is_leave e ≡ false → may_call run d ≡ true
+calls-done run c d e h m n =
+    let stays : list_any is_leave c.own ≡ false = not-false (list_any is_leave c.own) (and_right (is_caller_of run.callers c.party) (not (list_any is_leave c.own)) h) in
+    let there : is_caller_of run.callers d.party ≡ true = ap (is_caller_of run.callers) m.party ∙ and_left (is_caller_of run.callers c.party) (not (list_any is_leave c.own)) h in
+    let own : list_any is_leave d.own ≡ false = ap (list_any is_leave) m.own ∙ none-more is_leave c.own e stays n in
+    both_true {a = is_caller_of run.callers d.party} there (ap not own)
+
+-- and so may one that made none
+pub calls-kept : (run : Run) (c d : Sitting Event Run) → may_call run c ≡ true → IsKept c d → may_call run d ≡ true
+calls-kept run c d h k = (λ x. is_caller_of run.callers (k.party x) && not (list_any is_leave (k.own x))) ∙ h
 
 -- ---- workers
 

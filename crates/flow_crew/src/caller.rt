@@ -42,6 +42,7 @@ impl<B: Naming> Caller<B> {
         ensures of { IsCaller graph.now.book.run graph.now.book.items graph.now.book.events self.new.chair }
         ensures post { IsPostOf graph.now.pool self.new.worker.post }
         ensures worker { (self.new.worker.chair ≡ self.old.worker.chair) × (self.new.worker.busy ≡ self.old.worker.busy) }
+        ensures stays { may_call graph.now.book.run self.new.chair ≡ true }
         ensures made { IfOk result (λ a. IsDone self.old.chair (E.Put (number_of self.old.chair.party) node port tag val.now a) self.new.chair) }
         ensures stopped { IfErr result (λ s. IsHalted self.old.chair (λ e. (a : PutAnswer) × (e ≡ E.Put (number_of self.old.chair.party) node port tag val.now a)) self.new.chair s) }
     {
@@ -75,6 +76,7 @@ impl<B: Naming> Caller<B> {
         ensures of { IsCaller graph.now.book.run graph.now.book.items graph.now.book.events self.new.chair }
         ensures post { IsPostOf graph.now.pool self.new.worker.post }
         ensures worker { (self.new.worker.chair ≡ self.old.worker.chair) × (self.new.worker.busy ≡ self.old.worker.busy) }
+        ensures stays { may_call graph.now.book.run self.new.chair ≡ true }
         ensures made { OnOk result (IsDone self.old.chair (E.Act (number_of self.old.chair.party) node) self.new.chair) }
         ensures stopped { IfErr result (λ s. IsHalted self.old.chair (Was (E.Act (number_of self.old.chair.party) node)) self.new.chair s) }
     {
