@@ -1,3 +1,4 @@
+pub mod Fitted
 pub mod Keeps
 pub mod Lists
 pub mod Quiet

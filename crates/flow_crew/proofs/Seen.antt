@@ -24,12 +24,14 @@ use Rattle.flow_line.proofs.Beginnings.{prefix_self}
 use Rattle.flow_book.specs.declared.machine.Run.{Run}
 use Rattle.flow_book.specs.Runs.{run_allows}
 use Rattle.flow_book.specs.Answers.{about_of, IsKept, IsSame, IsShown}
-use Rattle.flow_book.specs.Serving.{AreNodes}
+use Rattle.flow_book.specs.declared.serve.Did.{Did}
+use Rattle.flow_book.specs.declared.serve.Did.TheVariants as D
+use Rattle.flow_book.specs.Serving.{AreNodes, IsServed}
 use Rattle.flow_book.specs.Unrest.{most}
 use Rattle.flow_book.proofs.Whole.{legal-run}
 use Rattle.flow_book.proofs.Serves.{same-on}
-use Rattle.flow_crew.specs.Crew.{IsEnded, IsWaited, HasWorked}
-use Rattle.flow_crew.proofs.Works.{worked-on, worked-kept}
+use Rattle.flow_crew.specs.Crew.{IsEnded, IsGiven, IsWaited, IsWorker, HasWorked, is_started}
+use Rattle.flow_crew.proofs.Works.{worked-on, worked-kept, worked-done, worker-same, worker-started, runs-started}
 use Rattle.flow_crew.specs.declared.waited.Waited.{Waited}
 use Rattle.flow_crew.specs.declared.waited.Waited.TheVariants as W
 
@@ -92,20 +94,37 @@ pub ended-later : (run : Run) (a c d : Sitting Event Run) (w : Waited) → HasWo
 ended-later run a c d W.Quiet h e = ((e.0.0, worked-on a c e.0.0 h e.0.1, e.0.2, e.0.3), e.1, e.2)
 ended-later run a c d (W.Halted stop) h e = e
 
--- first nothing was refused, then all callers had left, and then nothing was open
-pub quiet-ended : (run : Run) (items events : ℕ) (c b a d : Sitting Event Run) (left : ℕ) → IsSame c b → IsSame b a → IsSame a d → a.looks < d.looks → c.about ≡ about_of run items events
+-- first all callers had left, and then nothing was open
+pub quiet-ended : (run : Run) (items events : ℕ) (c a d : Sitting Event Run) (left : ℕ) → IsSame c a → IsSame a d → a.looks < d.looks → c.about ≡ about_of run items events
     → line.is_legal parties_of births_of run_allows d.about d.seen ≡ true → left ≡ count_by is_leave a.seen → left ≡ run.callers → most (open_after run.shape d.seen) ≡ 0 → IsEnded run c W.Quiet d
-quiet-ended run items events c b a d left cb ba ad looks about l counted all none = (
-  (a, worked-kept c a (same-on c b a cb ba).0, ad, looks),
-  all-left run items events a d ad.0.seen ((ad.0.about ∙ (ba.0.about ∙ cb.0.about)) ∙ about) l (sym counted ∙ all),
+quiet-ended run items events c a d left ca ad looks about l counted all none = (
+  (a, worked-kept c a ca.0, ad, looks),
+  all-left run items events a d ad.0.seen (ad.0.about ∙ (ca.0.about ∙ about)) l (sym counted ∙ all),
   none-open (open_after run.shape d.seen) none,
 )
-
--- the same for a caller that waits
-pub quiet-waited : (run : Run) (c b d : Sitting Event Run) → IsSame c b → b.looks < d.looks → most (open_after run.shape d.seen) ≡ 0 → IsWaited run c W.Quiet d
-quiet-waited run c b d cb looks none = (let le = cb.0.looks in omega (arith, le, looks), none-open (open_after run.shape d.seen) none)
 
 -- what was waited for after the chair had seen more
 pub waited-later : (run : Run) (a c d : Sitting Event Run) (w : Waited) → IsSame a c → IsWaited run c w d → IsWaited run a w d
 waited-later run a c d W.Quiet s h = (let le = s.0.looks in let more = h.0 in omega (arith, le, more), h.1)
 waited-later run a c d (W.Halted stop) s h = h
+
+-- ---- what was done at a node
+
+-- it names nodes of the run, and a job that the worker runs
+pub served-given : (run : Run) (items events : ℕ) (n : ℕ) (c d : Sitting Event Run) (did : Did) → IsServed n c did d → c.about ≡ about_of run items events → n < length run.shape.nodes
+    → line.is_legal parties_of births_of run_allows d.about d.seen ≡ true → IsGiven run d did
+served-given run items events n c d (D.Event first None) s about below l = (let same = s.2 in omega (arith, same, below), tt)
+served-given run items events n c d (D.Event first (Some second)) s about below l =
+    (let same = s.2 in omega (arith, same, below), second-within_run run items events c d s.0 first second s.3 (s.3.rest.0.about ∙ about) l s.1)
+served-given run items events n c d (D.Start job) s about below l = (runs-started run items events n c d job s about, let same = s.1 in omega (arith, same, below))
+served-given run items events n c d D.Rest s about below l = tt
+
+pub served-worker : (run : Run) (items events : ℕ) (n : ℕ) (c d : Sitting Event Run) (did : Did) → IsServed n c did d → IsWorker run items events c false → IsWorker run items events d (is_started did)
+served-worker run items events n c d (D.Event first second) s w = worker-same run items events c d false w s.3.rest
+served-worker run items events n c d (D.Start job) s w = worker-started run items events c d false _ w s.0
+served-worker run items events n c d D.Rest s w = worker-same run items events c d false w s.0
+
+pub served-worked : (n : ℕ) (c d : Sitting Event Run) (did : Did) → IsServed n c did d → HasWorked c d
+served-worked n c d (D.Event first second) s = worked-kept c d s.3.rest.0
+served-worked n c d (D.Start job) s = worked-done c d _ s.0
+served-worked n c d D.Rest s = worked-kept c d s.0.0

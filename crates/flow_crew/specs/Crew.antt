@@ -1,18 +1,18 @@
 -- Who works on a graph, and what a call leaves.
-use Rattle.std.specs.Prelude.{◌≡◌, ℕ, ◌<◌, ◌+◌, Bool, true, false, is_none, Some, List, [], ◌∷◌, ◌++◌, map, reverse, slice_get}
+use Rattle.std.specs.Prelude.{◌≡◌, ℕ, ◌<◌, ◌+◌, Bool, true, false, is_none, Some, List, slice_get, length, IfSome, ⊤}
 use Rattle.std.specs.List.{count_by}
 use mathlib.Core.List.{IsPrefix}
 use Rattle.flow_item.specs.declared.event.Event.{Event}
-use Rattle.flow_item.specs.declared.event.Party.TheVariants.{Worker}
 use Rattle.flow_shape.specs.declared.Kind.{Kind}
 use Rattle.flow_machine.specs.Machine.{is_leave, task_of, open_after}
 use Rattle.flow_line.specs.Values.{Sitting}
 use Rattle.flow_book.specs.declared.machine.Run.{Run}
 use Rattle.flow_book.specs.declared.job.JobBody.{JobBody}
+use Rattle.flow_book.specs.declared.serve.Did.{Did}
+use Rattle.flow_book.specs.declared.serve.Did.TheVariants as D
 use Rattle.flow_book.specs.Answers.{about_of, IsSame}
 use Rattle.flow_book.specs.Callers.{is_caller_of, is_worker_about}
-use Rattle.flow_book.specs.Jobs.{body_of}
-use Rattle.flow_book.specs.Opening.{numbers_below, fresh_chairs}
+use Rattle.flow_book.specs.Jobs.{body_of, RunsJob}
 use Rattle.flow_book.specs.Stopped.{Shows, KeepsRefused}
 use Rattle.flow_crew.specs.declared.waited.Waited.{Waited}
 use Rattle.flow_crew.specs.declared.waited.Waited.TheVariants as W
@@ -38,6 +38,17 @@ pub record IsWorker (run : Run) (items events : ℕ) (c : Sitting Event Run) (bu
 abbrev pub HasBody : Run → ℕ → JobBody → Type 0
 HasBody run n body = (k : Kind) × (slice_get run.shape.nodes n ≡ Some k) × (body_of k ≡ Some body)
 
+-- whether a body was started
+abbrev pub is_started : Did → Bool
+is_started (D.Start job) = true
+is_started did = false
+
+-- what was done names nodes of the run, and a job that the chair's party runs
+abbrev pub IsGiven : Run → Sitting Event Run → Did → Type 0
+IsGiven run c (D.Event first second) = (first < length run.shape.nodes) × IfSome second (λ n. n < length run.shape.nodes)
+IsGiven run c (D.Start job) = RunsJob run c job × (job.node < length run.shape.nodes)
+IsGiven run c D.Rest = ⊤
+
 -- the chair's party made some events more, or none
 pub record HasWorked (c d : Sitting Event Run) : Type 0 where
   pub party : d.party ≡ c.party
@@ -61,13 +72,3 @@ abbrev pub IsEnded : Run → Sitting Event Run → Waited → Sitting Event Run 
 IsEnded run c W.Quiet d =
     ((k : Sitting Event Run) × HasWorked c k × IsSame k d × (k.looks < d.looks)) × (count_by is_leave d.seen ≡ run.callers) × (open_after run.shape d.seen ≡ 0)
 IsEnded run c (W.Halted stop) d = Shows d stop
-
--- ---- a graph at its start
-
--- so many numbers from n on
-abbrev pub numbers_from : ℕ → ℕ → List ℕ
-numbers_from n count = map (λ k. n + k) (numbers_below count)
-
--- the chairs of so many workers from number n on, which have seen nothing
-abbrev pub fresh_workers : Run → ℕ → ℕ → ℕ → ℕ → List (Sitting Event Run)
-fresh_workers run items events n count = fresh_chairs run items events (map Worker (numbers_from n count))

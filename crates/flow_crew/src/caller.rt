@@ -117,10 +117,21 @@ impl<B: Naming> Caller<B> {
         ensures worker { (self.new.worker.chair ≡ self.old.worker.chair) × (self.new.worker.busy ≡ self.old.worker.busy) × (self.new.worker.post ≡ self.old.worker.post) }
         ensures ended { IfSome result (λ w. IsWaited graph.now.book.run self.old.chair w self.new.chair) }
     {
-        if let Some(stop) = graph.book.stopped(rt, &mut self.chair) {
-            return Some(Waited::Halted(stop));
+        match graph.book.stopped(rt, &mut self.chair) {
+            Some(stop) => Some(Waited::Halted(stop)),
+            None => self.quiet(rt, graph),
         }
-        if graph.book.unrest(rt, &mut self.chair) != 0 {
+    }
+
+    // Whether nothing is open.
+    fn quiet<R: Wait, G: Gate>(&mut self, rt: &R, graph: &Graph<G, B>) -> Option<Waited>
+        requires { IsCaller graph.now.book.run graph.now.book.items graph.now.book.events self.old.chair }
+        ensures same { IsSame self.old.chair self.new.chair }
+        ensures worker { (self.new.worker.chair ≡ self.old.worker.chair) × (self.new.worker.busy ≡ self.old.worker.busy) × (self.new.worker.post ≡ self.old.worker.post) }
+        ensures ended { IfSome result (λ w. IsWaited graph.now.book.run self.old.chair w self.new.chair) }
+    {
+        let open = graph.book.unrest(rt, &mut self.chair);
+        if open != 0 {
             return None;
         }
         self.worker.tell_quiet(graph);

@@ -1,8 +1,9 @@
 //! A worker of a graph.
 ghost use Rattle.std.specs.Prelude.{◌≡◌, ◌<◌, true, false, not, length, IfSome, IfNone};
 ghost use Rattle.flow_pool.specs.Posts.{IsPostOf};
+ghost use Rattle.flow_book.specs.Answers.{IsSame};
 ghost use Rattle.flow_book.specs.Jobs.{RunsJob, is_submit};
-ghost use Rattle.flow_crew.specs.Crew.{HasWorked, IsEnded, IsWorker, is_refused};
+ghost use Rattle.flow_crew.specs.Crew.{HasWorked, IsEnded, IsGiven, IsWorker, is_refused, is_started};
 
 use crate::graph::Graph;
 use crate::waited::Waited;
@@ -107,13 +108,35 @@ impl<B: Naming> Worker<B> {
         ensures worked { HasWorked self.old.chair self.new.chair }
         ensures idle { is_refused result ≡ false → self.new.busy ≡ false }
     {
-        let Ok(did) = graph
+        match graph
             .book
             .serve(alloc, rt, &mut self.chair, node, graph.gate)
-        else {
-            return Turn::Refused;
-        };
-        let _ = self.chair.len();
+        {
+            Ok(did) => {
+                let _ = self.chair.len();
+                self.follow(alloc, rt, graph, did)
+            }
+            Err(_) => Turn::Refused,
+        }
+    }
+
+    // Does what follows from what was done at a node.
+    fn follow<R: Wait, G: Gate>(
+        &mut self,
+        alloc: Global,
+        rt: &R,
+        graph: &Graph<G, B>,
+        did: Did,
+    ) -> Turn
+        requires of { IsWorker graph.now.book.run graph.now.book.items graph.now.book.events self.old.chair (is_started did) }
+        requires post { IsPostOf graph.now.pool self.old.post }
+        requires idle { self.old.busy ≡ false }
+        requires given { IsGiven graph.now.book.run self.old.chair did }
+        ensures of { IsWorker graph.now.book.run graph.now.book.items graph.now.book.events self.new.chair self.new.busy }
+        ensures post { IsPostOf graph.now.pool self.new.post }
+        ensures worked { HasWorked self.old.chair self.new.chair }
+        ensures idle { is_refused result ≡ false → self.new.busy ≡ false }
+    {
         match did {
             Did::Rest => Turn::Served,
             Did::Event { first, second } => {
@@ -206,14 +229,26 @@ impl<B: Naming> Worker<B> {
         ensures busy { self.new.busy ≡ self.old.busy }
         ensures ended { IfSome result (λ w. IsEnded graph.now.book.run self.old.chair w self.new.chair) }
     {
-        if let Some(stop) = graph.book.stopped(rt, &mut self.chair) {
-            return Some(Waited::Halted(stop));
+        match graph.book.stopped(rt, &mut self.chair) {
+            Some(stop) => Some(Waited::Halted(stop)),
+            None => self.quiet(rt, graph),
         }
+    }
+
+    // Whether all callers have left and nothing is open.
+    fn quiet<R: Wait, G: Gate>(&mut self, rt: &R, graph: &Graph<G, B>) -> Option<Waited>
+        requires of { IsWorker graph.now.book.run graph.now.book.items graph.now.book.events self.old.chair self.old.busy }
+        ensures of { IsWorker graph.now.book.run graph.now.book.items graph.now.book.events self.new.chair self.new.busy }
+        ensures same { (self.new.busy ≡ self.old.busy) × (self.new.post ≡ self.old.post) }
+        ensures worked { IsSame self.old.chair self.new.chair }
+        ensures ended { IfSome result (λ w. IsEnded graph.now.book.run self.old.chair w self.new.chair) }
+    {
         let left = graph.book.left(rt, &mut self.chair);
-        if graph.book.unrest(rt, &mut self.chair) != 0 {
+        let open = graph.book.unrest(rt, &mut self.chair);
+        let _ = self.chair.len();
+        if open != 0 {
             return None;
         }
-        let _ = self.chair.len();
         self.tell_quiet(graph);
         if left == graph.callers {
             Some(Waited::Quiet)
