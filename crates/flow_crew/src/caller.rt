@@ -7,6 +7,7 @@ ghost use Rattle.flow_book.specs.Answers.{IsDone, IsHalted, IsSame, Was};
 ghost use Rattle.flow_book.specs.Callers.{number_of, may_call, takes_puts, takes_acts};
 ghost use Rattle.flow_crew.specs.Crew.{HasWorked, IsCaller, IsWaited, IsWorker};
 
+use crate::bodies::Bodies;
 use crate::graph::Graph;
 use crate::waited::Waited;
 use crate::worker::{Turn, Worker};
@@ -25,11 +26,11 @@ pub struct Caller<B: Naming> {
 
 impl<B: Naming> Caller<B> {
     /// Puts a value to a node.
-    pub fn put<R: Wait, G: Gate>(
+    pub fn put<R: Wait, S: Bodies, G: Gate>(
         &mut self,
         alloc: Global,
         rt: &R,
-        graph: &Graph<G, B>,
+        graph: &Graph<S, G, B>,
         node: u32,
         port: u32,
         tag: u64,
@@ -62,11 +63,11 @@ impl<B: Naming> Caller<B> {
     }
 
     /// Starts an input node.
-    pub fn activate<R: Wait, G: Gate>(
+    pub fn activate<R: Wait, S: Bodies, G: Gate>(
         &mut self,
         alloc: Global,
         rt: &R,
-        graph: &Graph<G, B>,
+        graph: &Graph<S, G, B>,
         node: u32,
     ) -> Result<(), Stop>
         requires of { IsCaller graph.now.book.run graph.now.book.items graph.now.book.events self.old.chair }
@@ -96,7 +97,7 @@ impl<B: Naming> Caller<B> {
     }
 
     /// Leaves.
-    pub fn leave<R: Wait, G: Gate>(&mut self, rt: &R, graph: &Graph<G, B>) -> Result<(), Stop>
+    pub fn leave<R: Wait, S: Bodies, G: Gate>(&mut self, rt: &R, graph: &Graph<S, G, B>) -> Result<(), Stop>
         requires of { IsCaller graph.now.book.run graph.now.book.items graph.now.book.events self.old.chair }
         requires caller { may_call graph.now.book.run self.old.chair ≡ true }
         ensures of { IsCaller graph.now.book.run graph.now.book.items graph.now.book.events self.new.chair }
@@ -110,7 +111,7 @@ impl<B: Naming> Caller<B> {
     }
 
     // Whether the wait has ended, and how.
-    fn ended<R: Wait, G: Gate>(&mut self, rt: &R, graph: &Graph<G, B>) -> Option<Waited>
+    fn ended<R: Wait, S: Bodies, G: Gate>(&mut self, rt: &R, graph: &Graph<S, G, B>) -> Option<Waited>
         requires of { IsCaller graph.now.book.run graph.now.book.items graph.now.book.events self.old.chair }
         ensures of { IsCaller graph.now.book.run graph.now.book.items graph.now.book.events self.new.chair }
         ensures same { IsSame self.old.chair self.new.chair }
@@ -124,7 +125,7 @@ impl<B: Naming> Caller<B> {
     }
 
     // Whether nothing is open.
-    fn quiet<R: Wait, G: Gate>(&mut self, rt: &R, graph: &Graph<G, B>) -> Option<Waited>
+    fn quiet<R: Wait, S: Bodies, G: Gate>(&mut self, rt: &R, graph: &Graph<S, G, B>) -> Option<Waited>
         requires { IsCaller graph.now.book.run graph.now.book.items graph.now.book.events self.old.chair }
         ensures same { IsSame self.old.chair self.new.chair }
         ensures worker { (self.new.worker.chair ≡ self.old.worker.chair) × (self.new.worker.busy ≡ self.old.worker.busy) × (self.new.worker.post ≡ self.old.worker.post) }
@@ -139,11 +140,11 @@ impl<B: Naming> Caller<B> {
     }
 
     // One round of the wait.
-    fn round<R: Wait, G: Gate>(
+    fn round<R: Wait, S: Bodies, G: Gate>(
         &mut self,
         alloc: Global,
         rt: &R,
-        graph: &Graph<G, B>,
+        graph: &Graph<S, G, B>,
     ) -> Option<Waited>
         requires of { IsCaller graph.now.book.run graph.now.book.items graph.now.book.events self.old.chair }
         requires worker { IsWorker graph.now.book.run graph.now.book.items graph.now.book.events self.old.worker.chair self.old.worker.busy }
@@ -174,11 +175,11 @@ impl<B: Naming> Caller<B> {
     }
 
     /// Works until nothing is open, or a call is refused.
-    pub fn wait_for_all<R: Wait, G: Gate>(
+    pub fn wait_for_all<R: Wait, S: Bodies, G: Gate>(
         &mut self,
         alloc: Global,
         rt: &R,
-        graph: &Graph<G, B>,
+        graph: &Graph<S, G, B>,
     ) -> Waited
         requires of { IsCaller graph.now.book.run graph.now.book.items graph.now.book.events self.old.chair }
         requires worker { IsWorker graph.now.book.run graph.now.book.items graph.now.book.events self.old.worker.chair self.old.worker.busy }

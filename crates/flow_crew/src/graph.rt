@@ -9,7 +9,7 @@ ghost use Rattle.flow_book.specs.Answers.{about_of, IsSame};
 ghost use Rattle.flow_book.specs.Stopped.{Shows, KeepsRefused};
 
 use crate::bell::Bell;
-use flow_body::Shelf;
+use crate::bodies::{Bench, Bodies};
 use flow_book::{Book, Gate, GraphMachine};
 use flow_doc::Doc;
 use flow_item::Stop;
@@ -19,11 +19,11 @@ use std::sync::Wait;
 
 /// A document's nodes behind their locks, the pool of those that may have work, and the bodies.
 #[derive(Drop)]
-pub struct Graph<'a, G: Gate, B: Naming> {
+pub struct Graph<'a, S: Bodies, G: Gate, B: Naming> {
     pub(crate) doc: &'a Doc,
     pub(crate) book: Book<B>,
     pub(crate) pool: Pool,
-    pub(crate) shelf: &'a Shelf,
+    pub(crate) bench: Bench<'a, S>,
     pub(crate) gate: &'a G,
     pub(crate) bell: Bell,
     // How many callers there are.
@@ -33,10 +33,10 @@ pub struct Graph<'a, G: Gate, B: Naming> {
     ghost counted: { callers ≡ book.run.callers },
     ghost pooled: { pool.nodes ≡ length book.run.shape.nodes },
     ghost built: { list_all is_built book.run.shape.nodes ≡ true },
-    ghost shelved: { list_all (kind_fits (length shelf.now.bodies.items)) book.run.shape.nodes ≡ true },
+    ghost shelved: { list_all (kind_fits bench.count) book.run.shape.nodes ≡ true },
 }
 
-impl<'a, G: Gate, B: Naming> Graph<'a, G, B> {
+impl<'a, S: Bodies, G: Gate, B: Naming> Graph<'a, S, G, B> {
     // Puts a node that may have work into the post's own queue. Where there is no memory for it, the graph is halted.
     pub(crate) fn push<R: Wait>(&self, rt: &R, post: &mut Post, node: u32) -> bool
         requires post { IsPostOf self.now.pool post.old }

@@ -3,6 +3,7 @@ ghost use Rattle.std.specs.Prelude.{◌≡◌, false, IfOk, IfSome};
 ghost use Rattle.flow_book.specs.Jobs.{is_submit};
 ghost use Rattle.flow_crew.specs.Crew.{HasBody};
 
+use crate::bodies::Bodies;
 use crate::graph::Graph;
 use flow_book::{Gate, Job, JobBody, Point};
 use flow_item::{NoMemory, Outs};
@@ -10,20 +11,14 @@ use flow_line::Naming;
 use std::alloc::Global;
 use std::sync::Wait;
 
-impl<'a, G: Gate, B: Naming> Graph<'a, G, B> {
+impl<'a, S: Bodies, G: Gate, B: Naming> Graph<'a, S, G, B> {
     // The messages of a job's body.
     fn answer(&self, alloc: Global, job: &Job) -> Result<Outs, NoMemory>
         requires { HasBody self.now.book.run job.now.node job.now.body }
         ensures { IfOk result (λ outs. is_submit job.now.body ≡ false) }
     {
         match &job.body {
-            JobBody::Run { body, arg } => match self.shelf.body(*body) {
-                Some(body) => {
-                    let outs = body.run(alloc, arg, &job.item)?;
-                    Ok(outs)
-                }
-                None => unreachable!(),
-            },
+            JobBody::Run { body, arg } => self.bench.run(alloc, *body, arg, &job.item),
             JobBody::Submit { .. } => unreachable!(),
         }
     }

@@ -15,6 +15,7 @@
 #![tactic(auto)]
 
 mod bell;
+mod bodies;
 mod caller;
 mod graph;
 mod job;
@@ -23,6 +24,7 @@ mod parts;
 mod waited;
 mod worker;
 
+pub use bodies::Bodies;
 pub use caller::Caller;
 pub use flow_book::{Gate, NoGate, Point};
 pub use graph::Graph;

@@ -9,11 +9,11 @@ ghost use Rattle.flow_book.specs.Opening.{callers_of, workers_of, fresh_chairs};
 ghost use Rattle.flow_crew.specs.Crew.{IsCaller, IsWorker};
 
 use crate::bell::Bell;
+use crate::bodies::{Bench, Bodies};
 use crate::caller::Caller;
 use crate::graph::Graph;
 use crate::parts::Parts;
 use crate::worker::Worker;
-use flow_body::Shelf;
 use flow_book::{Book, Gate, GraphMachine};
 use flow_doc::Doc;
 use flow_item::NoMemory;
@@ -126,20 +126,20 @@ fn hire_workers<B: Naming>(
     Ok(workers)
 }
 
-impl<'a, G: Gate, B: Naming> Graph<'a, G, B> {
+impl<'a, S: Bodies, G: Gate, B: Naming> Graph<'a, S, G, B> {
     /// A document's graph at its start, with a caller for each script and so many workers.
     pub fn new(
         alloc: Global,
         doc: &'a Doc,
-        shelf: &'a Shelf,
+        bodies: &'a S,
         gate: &'a G,
         workers: u32,
         items: u64,
         events: u64,
         opened: Opened<GraphMachine>,
-    ) -> Result<Parts<'a, G, B>, NoMemory>
+    ) -> Result<Parts<'a, S, G, B>, NoMemory>
         requires name { opened ≡ B.table }
-        requires fits { doc_fits (length shelf.now.bodies.items) doc.now ≡ true }
+        requires fits { doc_fits (S.count bodies.now) doc.now ≡ true }
         requires built { list_all is_built doc.now.shape.nodes ≡ true }
         requires some { 0 < workers }
         requires few { workers + length doc.now.scripts + 1 < 2 ^ 32 }
@@ -181,7 +181,7 @@ impl<'a, G: Gate, B: Naming> Graph<'a, G, B> {
             doc,
             book,
             pool,
-            shelf,
+            bench: Bench::of(bodies),
             gate,
             bell: Bell::new(),
             callers: count,

@@ -7,6 +7,7 @@ ghost use Rattle.flow_line.specs.Values.{IsPart};
 ghost use Rattle.flow_line.specs.Kept.{first_kept};
 ghost use Rattle.flow_book.specs.Answers.{about_of};
 
+use crate::bodies::Bodies;
 use crate::caller::Caller;
 use crate::graph::Graph;
 use crate::worker::Worker;
@@ -16,8 +17,8 @@ use flow_line::Naming;
 
 /// A graph, its callers by their numbers, and its workers by theirs.
 #[derive(Drop)]
-pub struct Parts<'a, G: Gate, B: Naming> {
-    pub graph: Graph<'a, G, B>,
+pub struct Parts<'a, S: Bodies, G: Gate, B: Naming> {
+    pub graph: Graph<'a, S, G, B>,
     pub callers: Vec<Caller<B>>,
     pub workers: Vec<Worker<B>>,
     // Empty lists with room for all chairs.
@@ -49,7 +50,7 @@ fn seat_callers<B: Naming>(mut callers: Vec<Caller<B>>, seats: &mut Seats<B>)
     }
 }
 
-impl<'a, G: Gate, B: Naming> Parts<'a, G, B> {
+impl<'a, S: Bodies, G: Gate, B: Naming> Parts<'a, S, G, B> {
     /// Ends the run: the whole journal, and the event that was refused first.
     pub fn close(self) -> (Journal, Option<Event>)
         requires empty { (self.seats.callers.items ≡ []) × (self.seats.workers.items ≡ []) }

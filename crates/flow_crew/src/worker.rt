@@ -5,6 +5,7 @@ ghost use Rattle.flow_book.specs.Answers.{IsSame};
 ghost use Rattle.flow_book.specs.Jobs.{RunsJob, is_submit};
 ghost use Rattle.flow_crew.specs.Crew.{HasWorked, IsEnded, IsGiven, IsWorker, is_refused, is_started};
 
+use crate::bodies::Bodies;
 use crate::graph::Graph;
 use crate::waited::Waited;
 use flow_book::{Did, Gate, GraphMachine, Job};
@@ -45,11 +46,11 @@ fn turn_of(well: bool) -> Turn
 
 impl<B: Naming> Worker<B> {
     // Serves a node of the pool.
-    pub(crate) fn turn<R: Wait, G: Gate>(
+    pub(crate) fn turn<R: Wait, S: Bodies, G: Gate>(
         &mut self,
         alloc: Global,
         rt: &R,
-        graph: &Graph<G, B>,
+        graph: &Graph<S, G, B>,
     ) -> Turn
         requires of { IsWorker graph.now.book.run graph.now.book.items graph.now.book.events self.old.chair self.old.busy }
         requires post { IsPostOf graph.now.pool self.old.post }
@@ -66,11 +67,11 @@ impl<B: Naming> Worker<B> {
     }
 
     // Listens, and looks once more.
-    fn turn_again<R: Wait, G: Gate>(
+    fn turn_again<R: Wait, S: Bodies, G: Gate>(
         &mut self,
         alloc: Global,
         rt: &R,
-        graph: &Graph<G, B>,
+        graph: &Graph<S, G, B>,
     ) -> Turn
         requires of { IsWorker graph.now.book.run graph.now.book.items graph.now.book.events self.old.chair self.old.busy }
         requires post { IsPostOf graph.now.pool self.old.post }
@@ -92,11 +93,11 @@ impl<B: Naming> Worker<B> {
     }
 
     // Serves a node.
-    fn serve<R: Wait, G: Gate>(
+    fn serve<R: Wait, S: Bodies, G: Gate>(
         &mut self,
         alloc: Global,
         rt: &R,
-        graph: &Graph<G, B>,
+        graph: &Graph<S, G, B>,
         node: u32,
     ) -> Turn
         requires of { IsWorker graph.now.book.run graph.now.book.items graph.now.book.events self.old.chair self.old.busy }
@@ -121,11 +122,11 @@ impl<B: Naming> Worker<B> {
     }
 
     // Does what follows from what was done at a node.
-    fn follow<R: Wait, G: Gate>(
+    fn follow<R: Wait, S: Bodies, G: Gate>(
         &mut self,
         alloc: Global,
         rt: &R,
-        graph: &Graph<G, B>,
+        graph: &Graph<S, G, B>,
         did: Did,
     ) -> Turn
         requires of { IsWorker graph.now.book.run graph.now.book.items graph.now.book.events self.old.chair (is_started did) }
@@ -148,11 +149,11 @@ impl<B: Naming> Worker<B> {
     }
 
     // Runs a job that the worker has started, while no lock is held, and ends it.
-    fn work<R: Wait, G: Gate>(
+    fn work<R: Wait, S: Bodies, G: Gate>(
         &mut self,
         alloc: Global,
         rt: &R,
-        graph: &Graph<G, B>,
+        graph: &Graph<S, G, B>,
         job: Job,
     ) -> Turn
         requires of { IsWorker graph.now.book.run graph.now.book.items graph.now.book.events self.old.chair true }
@@ -177,11 +178,11 @@ impl<B: Naming> Worker<B> {
     }
 
     // Ends a job with these messages.
-    fn finish<R: Wait, G: Gate>(
+    fn finish<R: Wait, S: Bodies, G: Gate>(
         &mut self,
         alloc: Global,
         rt: &R,
-        graph: &Graph<G, B>,
+        graph: &Graph<S, G, B>,
         job: Job,
         outs: Outs,
     ) -> Turn
@@ -210,7 +211,7 @@ impl<B: Naming> Worker<B> {
     }
 
     // Tells those who listen that nothing is open, where it is the worker's news.
-    pub(crate) fn tell_quiet<G: Gate>(&mut self, graph: &Graph<G, B>)
+    pub(crate) fn tell_quiet<S: Bodies, G: Gate>(&mut self, graph: &Graph<S, G, B>)
         ensures { (self.new.chair ≡ self.old.chair) × (self.new.busy ≡ self.old.busy) × (self.new.post ≡ self.old.post) }
     {
         if self.worked {
@@ -220,7 +221,7 @@ impl<B: Naming> Worker<B> {
     }
 
     // Whether the work has ended, and how.
-    fn ended<R: Wait, G: Gate>(&mut self, rt: &R, graph: &Graph<G, B>) -> Option<Waited>
+    fn ended<R: Wait, S: Bodies, G: Gate>(&mut self, rt: &R, graph: &Graph<S, G, B>) -> Option<Waited>
         requires of { IsWorker graph.now.book.run graph.now.book.items graph.now.book.events self.old.chair self.old.busy }
         requires post { IsPostOf graph.now.pool self.old.post }
         ensures of { IsWorker graph.now.book.run graph.now.book.items graph.now.book.events self.new.chair self.new.busy }
@@ -236,7 +237,7 @@ impl<B: Naming> Worker<B> {
     }
 
     // Whether all callers have left and nothing is open.
-    fn quiet<R: Wait, G: Gate>(&mut self, rt: &R, graph: &Graph<G, B>) -> Option<Waited>
+    fn quiet<R: Wait, S: Bodies, G: Gate>(&mut self, rt: &R, graph: &Graph<S, G, B>) -> Option<Waited>
         requires of { IsWorker graph.now.book.run graph.now.book.items graph.now.book.events self.old.chair self.old.busy }
         ensures of { IsWorker graph.now.book.run graph.now.book.items graph.now.book.events self.new.chair self.new.busy }
         ensures same { (self.new.busy ≡ self.old.busy) × (self.new.post ≡ self.old.post) }
@@ -258,11 +259,11 @@ impl<B: Naming> Worker<B> {
     }
 
     // One round of the work.
-    fn round<R: Wait, G: Gate>(
+    fn round<R: Wait, S: Bodies, G: Gate>(
         &mut self,
         alloc: Global,
         rt: &R,
-        graph: &Graph<G, B>,
+        graph: &Graph<S, G, B>,
     ) -> Option<Waited>
         requires of { IsWorker graph.now.book.run graph.now.book.items graph.now.book.events self.old.chair self.old.busy }
         requires post { IsPostOf graph.now.pool self.old.post }
@@ -290,11 +291,11 @@ impl<B: Naming> Worker<B> {
     }
 
     /// Works until all callers have left and nothing is open, or a call is refused.
-    pub fn run<R: Wait, G: Gate>(
+    pub fn run<R: Wait, S: Bodies, G: Gate>(
         &mut self,
         alloc: Global,
         rt: &R,
-        graph: &Graph<G, B>,
+        graph: &Graph<S, G, B>,
     ) -> Waited
         requires of { IsWorker graph.now.book.run graph.now.book.items graph.now.book.events self.old.chair self.old.busy }
         requires post { IsPostOf graph.now.pool self.old.post }
