@@ -47,10 +47,7 @@ impl<B: Naming> Caller<B> {
         ensures made { IfOk result (λ a. IsDone self.old.chair (E.Put (number_of self.old.chair.party) node port tag val.now a) self.new.chair) }
         ensures stopped { IfErr result (λ s. IsHalted self.old.chair (λ e. (a : PutAnswer) × (e ≡ E.Put (number_of self.old.chair.party) node port tag val.now a)) self.new.chair s) }
     {
-        match graph
-            .book
-            .put(alloc, rt, &mut self.chair, node, port, tag, val, graph.gate)
-        {
+        match graph.book.put(alloc, rt, &mut self.chair, node, port, tag, val, graph.gate) {
             Ok(answer) => {
                 graph.inject(rt, &mut self.worker.post, node);
                 Ok(answer)
@@ -97,7 +94,11 @@ impl<B: Naming> Caller<B> {
     }
 
     /// Leaves.
-    pub fn leave<R: Wait, S: Bodies, G: Gate>(&mut self, rt: &R, graph: &Graph<S, G, B>) -> Result<(), Stop>
+    pub fn leave<R: Wait, S: Bodies, G: Gate>(
+        &mut self,
+        rt: &R,
+        graph: &Graph<S, G, B>,
+    ) -> Result<(), Stop>
         requires of { IsCaller graph.now.book.run graph.now.book.items graph.now.book.events self.old.chair }
         requires caller { may_call graph.now.book.run self.old.chair ≡ true }
         ensures of { IsCaller graph.now.book.run graph.now.book.items graph.now.book.events self.new.chair }
@@ -111,7 +112,11 @@ impl<B: Naming> Caller<B> {
     }
 
     // Whether the wait has ended, and how.
-    fn ended<R: Wait, S: Bodies, G: Gate>(&mut self, rt: &R, graph: &Graph<S, G, B>) -> Option<Waited>
+    fn ended<R: Wait, S: Bodies, G: Gate>(
+        &mut self,
+        rt: &R,
+        graph: &Graph<S, G, B>,
+    ) -> Option<Waited>
         requires of { IsCaller graph.now.book.run graph.now.book.items graph.now.book.events self.old.chair }
         ensures of { IsCaller graph.now.book.run graph.now.book.items graph.now.book.events self.new.chair }
         ensures same { IsSame self.old.chair self.new.chair }
@@ -125,7 +130,11 @@ impl<B: Naming> Caller<B> {
     }
 
     // Whether nothing is open.
-    fn quiet<R: Wait, S: Bodies, G: Gate>(&mut self, rt: &R, graph: &Graph<S, G, B>) -> Option<Waited>
+    fn quiet<R: Wait, S: Bodies, G: Gate>(
+        &mut self,
+        rt: &R,
+        graph: &Graph<S, G, B>,
+    ) -> Option<Waited>
         requires { IsCaller graph.now.book.run graph.now.book.items graph.now.book.events self.old.chair }
         ensures same { IsSame self.old.chair self.new.chair }
         ensures worker { (self.new.worker.chair ≡ self.old.worker.chair) × (self.new.worker.busy ≡ self.old.worker.busy) × (self.new.worker.post ≡ self.old.worker.post) }

@@ -221,7 +221,11 @@ impl<B: Naming> Worker<B> {
     }
 
     // Whether the work has ended, and how.
-    fn ended<R: Wait, S: Bodies, G: Gate>(&mut self, rt: &R, graph: &Graph<S, G, B>) -> Option<Waited>
+    fn ended<R: Wait, S: Bodies, G: Gate>(
+        &mut self,
+        rt: &R,
+        graph: &Graph<S, G, B>,
+    ) -> Option<Waited>
         requires of { IsWorker graph.now.book.run graph.now.book.items graph.now.book.events self.old.chair self.old.busy }
         requires post { IsPostOf graph.now.pool self.old.post }
         ensures of { IsWorker graph.now.book.run graph.now.book.items graph.now.book.events self.new.chair self.new.busy }
@@ -237,7 +241,11 @@ impl<B: Naming> Worker<B> {
     }
 
     // Whether all callers have left and nothing is open.
-    fn quiet<R: Wait, S: Bodies, G: Gate>(&mut self, rt: &R, graph: &Graph<S, G, B>) -> Option<Waited>
+    fn quiet<R: Wait, S: Bodies, G: Gate>(
+        &mut self,
+        rt: &R,
+        graph: &Graph<S, G, B>,
+    ) -> Option<Waited>
         requires of { IsWorker graph.now.book.run graph.now.book.items graph.now.book.events self.old.chair self.old.busy }
         ensures of { IsWorker graph.now.book.run graph.now.book.items graph.now.book.events self.new.chair self.new.busy }
         ensures same { (self.new.busy ≡ self.old.busy) × (self.new.post ≡ self.old.post) }
