@@ -28,7 +28,6 @@ pub struct Graph<'a, S: Bodies, G: Gate, B: Naming> {
     pub(crate) bell: Bell,
     // How many callers there are.
     pub(crate) callers: u32,
-    ghost shaped: { book.run.shape ≡ doc.now.shape },
     ghost scripted: { book.run.callers ≡ length doc.now.scripts },
     ghost counted: { callers ≡ book.run.callers },
     ghost pooled: { pool.nodes ≡ length book.run.shape.nodes },
