@@ -21,6 +21,7 @@ mod graph;
 mod job;
 mod open;
 mod parts;
+mod run;
 mod waited;
 mod worker;
 
@@ -29,5 +30,9 @@ pub use caller::Caller;
 pub use flow_book::{Gate, NoGate, Point};
 pub use graph::Graph;
 pub use parts::Parts;
+pub use run::run_all;
 pub use waited::Waited;
 pub use worker::Worker;
+
+#[cfg(test)]
+mod tests;
