@@ -43,12 +43,7 @@ fn meet(nodes: &[u32], marks: &mut Vec<bool>, order: &mut Vec<u32>) -> Result<()
 /// Whether a way leads from the node back to it.
 ///
 /// In time linear in the nodes, and the edges out of those that are reached.
-fn is_on_cycle(
-    alloc: Global,
-    shape: &Shape,
-    lists: &[Order],
-    node: usize,
-) -> Result<bool, NoMemory>
+fn is_on_cycle(alloc: Global, shape: &Shape, lists: &[Order], node: usize) -> Result<bool, NoMemory>
     requires joined { list_all (joins_nodes shape.now) shape.now.edges ≡ true }
     requires lists { AreTargets shape.now lists.now }
     requires within { node < length shape.now.nodes }
