@@ -1,4 +1,4 @@
-use Rattle.std.proofs.Common.{◌≡◌, Some, None}
+use Rattle.std.proofs.Common.{◌≡◌, Some, None, sym, ◌∙◌}
 use Rattle.flow_body.specs.Shelves.{meanings_of_shelf}
 use Rattle.flow_mean.specs.Judging.{early}
 use Rattle.flow_mean.proofs.Grouped.{fits-valid, fits-kinds, judges-early}
@@ -19,5 +19,5 @@ settled-requires-clause-kinds g c = fits-kinds _ c.args.doc.now c.requires
 pub returns-in-Some : goal.returns-in-Some
 returns-in-Some g c =
     let meanings = meanings_of_shelf (λ n. (goal.Body-dyn g (n.body.vtable, n.body.value)).pure n.body.value) (λ n. (goal.Body-dyn g (n.body.vtable, n.body.value)).single n.body.value) (λ n. (goal.Body-dyn g (n.body.vtable, n.body.value)).out n.body.value) c.args.shelf.now.bodies.items in
-    let found : Some c.in-Some.loose ≡ early meanings c.args.doc.now = cc in
+    let found : Some c.in-Some.loose ≡ early meanings c.args.doc.now = sym c.in-Some.is ∙ c.in_ok-loose.ensures in
     judges-early meanings c.args.doc.now c.in-Some.loose found
