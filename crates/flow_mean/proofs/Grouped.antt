@@ -135,7 +135,3 @@ late-from meanings doc flow marks o s t x y z p q whole same repeat xo sink ys c
     qq ∙ ap (λ (w : Option Loose). or_else x w) pq ∙ ap (λ (w : Option Loose). or_else w (or_else y z)) six
     ∙ ap (λ (w : Option Loose). or_else (loose_at N6 (least doc (repeats_tag meanings doc))) (or_else w z)) seven
     ∙ ap (λ (w : Option Loose). or_else (loose_at N6 (least doc (repeats_tag meanings doc))) (or_else (loose_at N7 (least doc (λ n k. has doc.sinks n && not (is_sequencer k)))) w)) eight
-
-pub found-judges : (meanings : Meanings) (doc : Doc) (fault : MeanFault) → Finds meanings doc (Err fault) → Judges (determinate meanings doc) (Err fault)
-found-judges meanings doc (M.Loose f) h = h
-found-judges meanings doc M.Memory h = tt

@@ -1,29 +1,19 @@
 -- What is reached along edges, and cycles.
-use Rattle.std.proofs.Common.{◌⊎◌, inl, inr, ◌≡◌, ℕ, zero, suc, ◌+◌, ◌-◌, ◌≤◌, ◌<◌, Bool, true, false, not, cond, ◌&&◌, ◌||◌, eqb, ltb, Some, None, List, [], ◌∷◌, ◌++◌, length, get_or, set, take, refl, sym, ap, subst, ◌∙◌, arith, eq-eqb, get_or-set_other, get_or-set_same}
+use Rattle.std.proofs.Common.{◌≡◌, ℕ, zero, suc, ◌+◌, ◌-◌, ◌≤◌, ◌<◌, Bool, true, false, cond, ◌&&◌, ◌||◌, eqb, ltb, Some, None, List, [], ◌∷◌, ◌++◌, length, refl, sym, ap, ◌∙◌, arith, eq-eqb}
 use Rattle.std.proofs.lemmas.Bool.{eqb-true, ltb-true}
-use Rattle.std.proofs.lemmas.List.{length-set, take_more}
-use Rattle.std.proofs.lemmas.Option.{slice_get-get_or}
 use Rattle.std.specs.Prelude.{slice_get}
-use Rattle.std.specs.List.{list_all, list_any}
+use Rattle.std.specs.List.{list_any}
 use Rattle.flow_item.specs.Lists.{has, with_number, first}
 use Rattle.flow_item.proofs.Tests.{and_left, and_right, both_true}
 use Rattle.flow_item.proofs.Places.{has-with-same, has-with-other}
 use Rattle.flow_shape.specs.declared.Edge.{Edge}
 use Rattle.flow_shape.specs.declared.Kind.{Kind}
 use Rattle.flow_shape.specs.declared.Shape.{Shape}
-use Rattle.flow_shape.specs.Wiring.{is_some_and}
-use Rattle.flow_shape.specs.Rules.{joins_nodes, IsValid}
+use Rattle.flow_shape.specs.Rules.{IsValid}
 use Rattle.flow_shape.specs.Orders.{leads, HasCycle}
-use Rattle.flow_shape.proofs.Sorting.{all-at}
 use Rattle.flow_shape.proofs.Valid.{passes-some, valid-joins_nodes}
 use Rattle.flow_mean.specs.Determinate.{onward, onward_times, next_of, is_on_cycle, nodes_where}
-use Rattle.flow_mean.specs.Judging.{AreMarks, stepped}
-use Rattle.flow_mean.proofs.Graph.{Leads, Back, once-more, no-long}
-
--- ---- lists that agree on the numbers below a size
-
-abbrev pub Agree : ℕ → List ℕ → List ℕ → Type 0
-Agree size ns ms = (n : ℕ) → n < size → has ns n ≡ has ms n
+use Rattle.flow_mean.proofs.Graph.{Back, once-more, no-long}
 
 pub with-has : (x y : ℕ) (ns : List ℕ) → has (with_number x ns) y ≡ (eqb x y || has ns y)
 with-has x y ns = by (eqb x y) refl
@@ -32,44 +22,10 @@ with-has x y ns = by (eqb x y) refl
     by true e = let same : x ≡ y = eqb-true x y e in rw same (has-with-same y ns)
     by false e = has-with-other x y ns e
 
-with-agree : (size x : ℕ) (ns ms : List ℕ) → Agree size ns ms → Agree size (with_number x ns) (with_number x ms)
-with-agree size x ns ms h n less = with-has x n ns ∙ ap (λ b. eqb x n || b) (h n less) ∙ sym (with-has x n ms)
-
 module _ (size : ℕ) where
   -- the edges join numbers below the size
   abbrev pub Joined : List Edge → Type 0
   Joined es = (i : ℕ) (e : Edge) → slice_get es i ≡ Some e → (e.from < size) × (e.to < size)
-
-  onward-agree : (es : List Edge) (ns ms : List ℕ) → Joined es → Agree size ns ms → Agree size (onward es ns) (onward es ms)
-  onward-agree [] ns ms j h = h
-  onward-agree (e ∷ es) ns ms j h =
-      onward-agree es (cond (has ns e.from) (with_number e.to ns) ns) (cond (has ms e.from) (with_number e.to ms) ms) (λ i. j (suc i))
-      (by (has ns e.from) (has ms e.from) (h e.from (j 0 e refl).0))
-    where
-      by : (b c : Bool) → b ≡ c → Agree size (cond b (with_number e.to ns) ns) (cond c (with_number e.to ms) ms)
-      by true true q = with-agree size e.to ns ms h
-      by false false q = h
-      by true false q = cc
-      by false true q = cc
-
-  times-agree : (k : ℕ) (es : List Edge) (ns ms : List ℕ) → Joined es → Agree size ns ms → Agree size (onward_times k es ns) (onward_times k es ms)
-  times-agree zero es ns ms j h = h
-  times-agree (suc k) es ns ms j h = times-agree k es (onward es ns) (onward es ms) j (onward-agree es ns ms j h)
-
-  -- where no more is reached, none is reached later
-  pub times-stay : (k : ℕ) (es : List Edge) (ns : List ℕ) → Joined es → Agree size (onward es ns) ns → Agree size (onward_times k es ns) ns
-  times-stay zero es ns j h n less = refl
-  times-stay (suc k) es ns j h n less = times-agree k es (onward es ns) ns j h n less ∙ times-stay k es ns j h n less
-
-pub times-split : (j k : ℕ) (es : List Edge) (ns : List ℕ) → onward_times (j + k) es ns ≡ onward_times k es (onward_times j es ns)
-times-split zero k es ns = ap (λ n. onward_times n es ns) zero_plus
-  where
-    zero_plus : 0 + k ≡ k
-    zero_plus = omega arith
-times-split (suc j) k es ns = ap (λ n. onward_times n es ns) suc_plus ∙ times-split j k es (onward es ns)
-  where
-    suc_plus : suc j + k ≡ suc (j + k)
-    suc_plus = omega arith
 
 -- ---- what is reached is led to
 
@@ -185,50 +141,6 @@ acyclic-none shape never = sym (ap first (where-none (λ n k. is_on_cycle shape 
     by n true e = absurd (never (on-cycle shape n e))
     by n false e = refl
 
--- ---- marks of what is reached
-
--- the marks after an edge
-module _ (size : ℕ) (marks : List Bool) (ms : List ℕ) (e : Edge) (from : e.from < size) (to : e.to < size) (are : AreMarks size (has ms) marks) where
-  pub step-marked : get_or marks e.from false ≡ true → get_or marks e.to false ≡ false → AreMarks size (has (stepped e ms)) (set marks e.to true)
-  step-marked f t = (length-set marks e.to true ∙ are.0, λ n less. by n (eqb e.to n) refl less)
-    where
-      there : has ms e.from ≡ true
-      there = sym (are.1 e.from from) ∙ f
-
-      list : (n : ℕ) → has (cond (has ms e.from) (with_number e.to ms) ms) n ≡ (eqb e.to n || has ms n)
-      list n = ap (λ b. has (cond b (with_number e.to ms) ms) n) there ∙ with-has e.to n ms
-
-      by : (n : ℕ) (b : Bool) → eqb e.to n ≡ b → n < size → get_or (set marks e.to true) n false ≡ has (cond (has ms e.from) (with_number e.to ms) ms) n
-      by n true q less =
-          let same : e.to ≡ n = eqb-true e.to n q in
-          let room : e.to < length marks = omega (arith, to, are.0) in
-          let here : get_or (set marks e.to true) e.to false ≡ true = get_or-set_same marks e.to true false room in
-          let it : get_or (set marks e.to true) n false ≡ true = subst (λ x. get_or (set marks e.to true) x false ≡ true) same here in
-          it ∙ sym (list n ∙ ap (λ b. b || has ms n) q)
-      by n false q less =
-          let ne : n ≡ e.to → ⊥ = λ p. (let clash : true ≡ false = sym (eq-eqb e.to n (sym p)) ∙ q in absurd cc) in
-          get_or-set_other marks e.to n true false ne ∙ are.1 n less ∙ sym (list n ∙ ap (λ b. b || has ms n) q)
-
-  pub step-same : (get_or marks e.from false ≡ false) ⊎ (get_or marks e.to false ≡ true) → AreMarks size (has (stepped e ms)) marks
-  step-same (inl f) = (are.0, λ n less. are.1 n less ∙ sym (ap (λ b. has (cond b (with_number e.to ms) ms) n) (sym (are.1 e.from from) ∙ f)))
-  step-same (inr t) = (are.0, λ n less. by n (has ms e.from) (eqb e.to n) refl less)
-    where
-      by : (n : ℕ) (c b : Bool) → eqb e.to n ≡ b → n < size → get_or marks n false ≡ has (cond c (with_number e.to ms) ms) n
-      by n false b q less = are.1 n less
-      by n true true q less =
-          let same : e.to ≡ n = eqb-true e.to n q in
-          let here : get_or marks n false ≡ true = subst (λ x. get_or marks x false ≡ true) same t in
-          here ∙ sym (with-has e.to n ms ∙ ap (λ b. b || has ms n) q)
-      by n true false q less = are.1 n less ∙ sym (with-has e.to n ms ∙ ap (λ b. b || has ms n) q)
-
--- one pass is one edge after another
-onward-last : (xs : List Edge) (e : Edge) (ns : List ℕ) → onward (xs ++ e ∷ []) ns ≡ stepped e (onward xs ns)
-onward-last [] e ns = refl
-onward-last (x ∷ xs) e ns = onward-last xs e (cond (has ns x.from) (with_number x.to ns) ns)
-
-pub onward-more : (es : List Edge) (i : ℕ) (d : Edge) (ns : List ℕ) → i < length es → onward (take (i + 1) es) ns ≡ stepped (get_or es i d) (onward (take i es) ns)
-onward-more es i d ns less = ap (λ l. onward l ns) (take_more es i d less) ∙ onward-last (take i es) (get_or es i d) ns
-
 pub times-more : (i : ℕ) (es : List Edge) (ns : List ℕ) → onward_times (i + 1) es ns ≡ onward es (onward_times i es ns)
 times-more i es ns = ap (λ k. onward_times k es ns) plus ∙ once-more i es ns
   where
@@ -243,30 +155,3 @@ next-any k n (e ∷ es) = by (eqb e.from k) (next-any k n es)
     by : (b : Bool) → list_any (λ (e : Edge). eqb e.from k && eqb e.to n) es ≡ has (next_of es k) n → ((b && eqb e.to n) || list_any (λ (e : Edge). eqb e.from k && eqb e.to n) es) ≡ has (cond b (with_number e.to (next_of es k)) (next_of es k)) n
     by true h = ap (λ b. eqb e.to n || b) h ∙ sym (with-has e.to n (next_of es k))
     by false h = h
-
-pub edge-within : (shape : Shape) (i : ℕ) (d : Edge) → list_all (joins_nodes shape) shape.edges ≡ true → i < length shape.edges → ((get_or shape.edges i d).from < length shape.nodes) × ((get_or shape.edges i d).to < length shape.nodes)
-edge-within shape i d h less =
-    let e : Edge = get_or shape.edges i d in
-    let both : joins_nodes shape e ≡ true = all-at (joins_nodes shape) shape.edges i e h (slice_get-get_or shape.edges i d less) in
-    (ltb-true _ _ (and_left (ltb e.from (length shape.nodes)) _ both), ltb-true _ _ (and_right (ltb e.from (length shape.nodes)) _ both))
-
--- where a pass marks no more, all that is reached is marked
-pub marks-stay : (size i : ℕ) (es : List Edge) (ns : List ℕ) (marks : List Bool) → Joined size es → i ≤ size → AreMarks size (has (onward_times i es ns)) marks → AreMarks size (has (onward es (onward_times i es ns))) marks → AreMarks size (has (onward_times size es ns)) marks
-marks-stay size i es ns marks j most are more =
-    let stay = times-stay size (size - i) es (onward_times i es ns) j (λ n less. sym (more.1 n less) ∙ are.1 n less) in
-    let plus : i + (size - i) ≡ size = omega (arith, most) in
-    let split : onward_times size es ns ≡ onward_times (size - i) es (onward_times i es ns) = ap (λ k. onward_times k es ns) (sym plus) ∙ times-split i (size - i) es ns in
-    (are.0, λ n less. are.1 n less ∙ sym (ap (λ l. has l n) split ∙ stay n less))
-
-pub all-joined : (shape : Shape) → list_all (joins_nodes shape) shape.edges ≡ true → Joined (length shape.nodes) shape.edges
-all-joined shape h i e at =
-    let both : joins_nodes shape e ≡ true = all-at (joins_nodes shape) shape.edges i e h at in
-    (ltb-true _ _ (and_left (ltb e.from (length shape.nodes)) _ both), ltb-true _ _ (and_right (ltb e.from (length shape.nodes)) _ both))
-
--- the marks after one edge more
-pub onward-on : (size : ℕ) (marks : List Bool) (items es : List Edge) (i : ℕ) (d : Edge) (ns : List ℕ) → items ≡ es → i < length items →
-    AreMarks size (has (stepped (get_or items i d) (onward (take i es) ns))) marks → AreMarks size (has (onward (take (i + 1) es) ns)) marks
-onward-on size marks items es i d ns same less are =
-    let inside : i < length es = subst (λ (l : List Edge). i < length l) same less in
-    let here : AreMarks size (has (stepped (get_or es i d) (onward (take i es) ns))) marks = subst (λ (l : List Edge). AreMarks size (has (stepped (get_or l i d) (onward (take i es) ns))) marks) same are in
-    subst (λ (l : List ℕ). AreMarks size (has l) marks) (sym (onward-more es i d ns inside)) here

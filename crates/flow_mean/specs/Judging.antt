@@ -1,7 +1,7 @@
 -- What a judgement of a document answers, and the tables that it reads.
 use Rattle.std.specs.Prelude.{◌≡◌, ℕ, suc, ◌<◌, Bool, false, not, ◌&&◌, if◌then◌else◌, nat_eq, Option, Some, None, Result, Ok, Err, List, [], ◌∷◌, length, get_or, slice_get, ⊤}
 use Rattle.std.specs.List.{list_any}
-use Rattle.flow_item.specs.Lists.{first, has, with_number}
+use Rattle.flow_item.specs.Lists.{first, has}
 use Rattle.flow_shape.specs.declared.Kind.{Kind}
 use Rattle.flow_shape.specs.declared.Kind.TheVariants as K
 use Rattle.flow_shape.specs.declared.Edge.{Edge}
@@ -85,14 +85,6 @@ abbrev pub leaving : List Edge → ℕ → ℕ
 leaving [] n = 0
 leaving (e ∷ es) n = if nat_eq e.from n then suc (leaving es n) else leaving es n
 
--- the nodes, with the to-node of this edge if it begins there
-abbrev pub stepped : Edge → List ℕ → List ℕ
-stepped e ns = if has ns e.from then with_number e.to ns else ns
-
 -- the same counts, edge by edge
 abbrev pub AreCounts : Shape → List ℕ → Type 0
 AreCounts shape outs = (length outs ≡ length shape.nodes) × ((n : ℕ) → n < length shape.nodes → get_or outs n 0 ≡ leaving shape.edges n)
-
--- whether an edge leads from one node to the other
-abbrev pub leads_to : Shape → ℕ → ℕ → Bool
-leads_to shape k n = list_any (λ (e : Edge). nat_eq e.from k && nat_eq e.to n) shape.edges
