@@ -15,13 +15,12 @@ use Rattle.flow_doc.specs.Fields.{◌>>=◌}
 use Rattle.flow_mean.specs.declared.LooseRule.{LooseRule}
 use Rattle.flow_mean.specs.declared.LooseRule.TheVariants.{N1, N2, N3, N4, N5, N6, N7, N8}
 use Rattle.flow_mean.specs.declared.Loose.{Loose}
-use Rattle.flow_mean.specs.declared.MeanFault.{MeanFault}
 use Rattle.flow_mean.specs.declared.MeanFault.TheVariants as M
 use Rattle.flow_mean.specs.Meaning.{is_sequencer}
 use Rattle.flow_mean.specs.Determinate.{is_orderly, is_function, is_cancel, is_on_cycle, nodes_where, holds, has_several_out_edges, may_lose, has_loose_body, repeats_tag, determinate, IsDeterminate}
 use Rattle.flow_mean.specs.Judging.{AreRepeats, Judges, loose_at, or_else, least, early, late}
 use Rattle.flow_mean.specs.declared.flow.Flow.{Flow}
-use Rattle.flow_mean.specs.Whole.{IsWhole, Finds}
+use Rattle.flow_mean.specs.Whole.{IsWhole}
 use Rattle.flow_mean.proofs.Tidied.{none-where}
 
 -- the answer that an optional fault is
