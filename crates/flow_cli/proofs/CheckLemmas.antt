@@ -46,6 +46,7 @@ use Rattle.flow_cli.specs.Plain.{IsRead, IsRefused}
 use Rattle.flow_cli.specs.Steps.{Reads, IsSaid, IsEnded, fault_ending}
 use Rattle.flow_cli.specs.Check.{loose_line, unless_tamed, check_lines, check_text}
 use Rattle.flow_cli.specs.Checked.{KeepsChecked, IsCheckEnding, IsCheckPrinted, IsCheckCaused, due_status, IsCheckDue, IsCheckAnswer}
+use Rattle.flow_cli.proofs.GenLemmas.{ended_output, ended_memory}
 use Rattle.flow_cli.proofs.PlainLemmas.{says_words, says_memory, status_of, all_read, refused_all}
 
 -- ---- the text
@@ -110,19 +111,12 @@ meant_text meanings doc bodies meant fits determined whole =
 
 -- ---- what is said
 
-said_output : (text : List ℕ) (status : Status) (old new : Option (List ℕ)) → IsSaid text S.Done status old new → IsWritten (output S.Done text) status old new
-said_output text status old new (inl h) = rw h.0 (refl, h.1)
-said_output text status old new (inr h) = rw h.0 h.1
-
 pub ended_loose : (text told : List ℕ) (status : Status) (old new : Option (List ℕ)) → told ≡ text → IsSaid told S.Done status old new → IsEnded (output S.Done text) status old new
-ended_loose text told status old new same said = record { last = output S.Done text; is = inl refl; written = said_output text status old new (subst (λ (t : List ℕ). IsSaid t S.Done status old new) same said) }
-
-pub ended_no_memory : (ending : Ending) (status : Status) (old new : Option (List ℕ)) → IsSaid memory_text S.Memory status old new → IsEnded ending status old new
-ended_no_memory ending status old new said = record { last = no_memory; is = inr refl; written = says_memory status old new said }
+ended_loose text told status old new same said = ended_output text status old new (subst (λ (t : List ℕ). IsSaid t S.Done status old new) same said)
 
 -- nothing was written before
 pub no_memory_after : (ending : Ending) (status : Status) (old mid new : Option (List ℕ)) → mid ≡ old → IsSaid memory_text S.Memory status mid new → IsEnded ending status old new
-no_memory_after ending status old mid new same said = ended_no_memory ending status old new (subst (λ (o : Option (List ℕ)). IsSaid memory_text S.Memory status o new) same said)
+no_memory_after ending status old mid new same said = ended_memory ending status old new (subst (λ (o : Option (List ℕ)). IsSaid memory_text S.Memory status o new) same said)
 
 pub ended_as : (text other : List ℕ) (status : Status) (old new : Option (List ℕ)) → text ≡ other → IsEnded (output S.Done text) status old new → IsEnded (output S.Done other) status old new
 ended_as text other status old new same e = subst (λ (t : List ℕ). IsEnded (output S.Done t) status old new) same e

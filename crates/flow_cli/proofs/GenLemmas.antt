@@ -38,7 +38,7 @@ said_output : (text : List ℕ) (status : Status) (old new : Option (List ℕ)) 
 said_output text status old new (inl h) = rw h.0 (refl, h.1)
 said_output text status old new (inr h) = rw h.0 h.1
 
-ended_output : (text : List ℕ) (status : Status) (old new : Option (List ℕ)) → IsSaid text S.Done status old new → IsEnded (output S.Done text) status old new
+pub ended_output : (text : List ℕ) (status : Status) (old new : Option (List ℕ)) → IsSaid text S.Done status old new → IsEnded (output S.Done text) status old new
 ended_output text status old new said = record { last = output S.Done text; is = inl refl; written = said_output text status old new said }
 
 pub ended_memory : (ending : Ending) (status : Status) (old new : Option (List ℕ)) → IsSaid memory_text S.Memory status old new → IsEnded ending status old new

@@ -67,6 +67,15 @@ shows_meaning meanings bodies doc es fits run kept done singles determined =
     let followed : follows meanings doc 1 es ≡ true = both_true (both_true run (kept_whole doc.shape doc.scripts es done.scripts)) kept in
     (one-result meanings doc bodies 1 es singles fits determined followed (done_whole doc.shape doc.scripts es done.scripts) done.settled).0
 
+same_doc : (o : Option Doc) (d e : Doc) → o ≡ Some d → o ≡ Some e → d ≡ e
+same_doc None d e p q = cc
+same_doc (Some x) d e p q = cc
+
+-- what holds of the document that is there
+there : (Holds : Doc → Type 0) (o : Option Doc) (d : Doc) → o ≡ Some d → IfSome o Holds → Holds d
+there Holds None d p h = cc
+there Holds (Some x) d p h = let e : x ≡ d = cc in subst Holds e h
+
 -- what the command `plain` leaves shows it
 pub plain_shows : (shelf : List (List ℕ)) (meanings : Meanings) (options : Options) (before after : Option (List ℕ)) (kept : Kept) (status : Status) (old new : Option (List ℕ)) → IsAnswer shelf meanings (Some options) before after kept status old new → status ≡ S.Done → ShowsMeaning meanings kept
 plain_shows shelf meanings options before after kept status old new answer same singles doc is determined =
@@ -74,16 +83,8 @@ plain_shows shelf meanings options before after kept status old new answer same 
     let done = answer.done same in
     let alike : done.doc ≡ doc = same_doc kept.doc done.doc doc done.is is in
     let whole : IsDone doc kept.journal = subst (λ (d : Doc). IsDone d kept.journal) alike done.done in
-    let read : IsRead shelf before after (Ok doc) = read_of kept.doc doc is answer.document.read in
+    let read = there (λ (d : Doc). IsRead shelf before after (Ok d)) kept.doc doc is answer.document.read in
     shows_meaning meanings (length shelf) doc kept.journal (read_fits OFFERED shelf read.bytes doc read.is) legal.legal legal.bodies whole singles determined
-  where
-    same_doc : (o : Option Doc) (d e : Doc) → o ≡ Some d → o ≡ Some e → d ≡ e
-    same_doc None d e p q = cc
-    same_doc (Some x) d e p q = cc
-
-    read_of : (o : Option Doc) (d : Doc) → o ≡ Some d → IfSome o (λ x. IsRead shelf before after (Ok x)) → IsRead shelf before after (Ok d)
-    read_of None d p r = cc
-    read_of (Some x) d p r = let e : x ≡ d = cc in subst (λ (y : Doc). IsRead shelf before after (Ok y)) e r
 
 pub unlike_none : (o : Option Doc) (doc : Doc) → o ≡ None → o ≡ Some doc → ⊥
 unlike_none None doc p q = cc
@@ -97,21 +98,13 @@ none_shows meanings kept none singles doc is determined = absurd (unlike_none ke
 pub gen_shows : (shelf : List (List ℕ)) (meanings : Meanings) (asked : Option Generating) (kept : Kept) (status : Status) (old new : Option (List ℕ)) → IsGenAnswer shelf meanings asked kept status old new → status ≡ S.Done → ShowsMeaning meanings kept
 gen_shows shelf meanings asked kept status old new answer same = by_asked asked refl answer.kept
   where
-    same_doc : (o : Option Doc) (d e : Doc) → o ≡ Some d → o ≡ Some e → d ≡ e
-    same_doc None d e p q = cc
-    same_doc (Some x) d e p q = cc
-
-    run_of : (count : ℕ) (o : Option Doc) (d : Doc) → o ≡ Some d → IfSome o (λ x. RunsNumber shelf meanings count x kept.journal) → RunsNumber shelf meanings count d kept.journal
-    run_of count None d p r = cc
-    run_of count (Some x) d p r = let e : x ≡ d = cc in subst (λ (y : Doc). RunsNumber shelf meanings count y kept.journal) e r
-
     by_text : (g : Generating) → asked ≡ Some g → (b : Bool) → g.text ≡ b → KeepsAsked shelf meanings b g.count kept → ShowsMeaning meanings kept
     by_text g is true text keeps = none_shows meanings kept keeps.document
     by_text g is false text keeps = λ singles doc at determined.
         let has = answer.done g is text same in
         let alike : has.doc ≡ doc = same_doc kept.doc has.doc doc has.is at in
         let whole : IsDone doc kept.journal = subst (λ (d : Doc). IsDone d kept.journal) alike has.done in
-        let runs = run_of g.count kept.doc doc at keeps.document in
+        let runs = there (λ (d : Doc). RunsNumber shelf meanings g.count d kept.journal) kept.doc doc at keeps.document in
         shows_meaning meanings (length shelf) doc kept.journal (found_fits shelf g.count doc runs.is) runs.run.legal runs.run.bodies whole singles determined
 
     by_asked : (o : Option Generating) → asked ≡ o → KeepsGenerated shelf meanings o kept → ShowsMeaning meanings kept

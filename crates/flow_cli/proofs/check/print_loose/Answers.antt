@@ -1,4 +1,4 @@
-use Rattle.flow_cli.proofs.CheckLemmas.{ended_loose, ended_no_memory}
+use Rattle.flow_cli.proofs.CheckLemmas.{ended_loose}
 use Rattle.flow_cli.proofs.check.print_loose.Goals as goal
 use Rattle.std.proofs.Common.{rules}
 
