@@ -10,10 +10,9 @@ import statistics
 import subprocess
 import sys
 import tempfile
-import time
 
-HERE = os.path.dirname(os.path.abspath(__file__))
-FLOW = os.path.join(HERE, "..", "crates", "flow", "out", "flow")
+from measure import FLOW, last_line, timed
+
 NUMBERS = (20_000, 90_000)
 
 
@@ -33,24 +32,12 @@ WORK = [
 ]
 
 
-def last_line(path):
-    with open(path, "rb") as text:
-        text.seek(0, os.SEEK_END)
-        text.seek(max(0, text.tell() - 300))
-        return text.read().decode(errors="replace").rstrip("\n").rsplit("\n", 1)[-1]
-
-
 def run_once(program, words, source_path, out_path, wanted):
     """Wall seconds and peak megabytes of one run, whose last line has to be the wanted one."""
-    with open(source_path, "rb") as source, open(out_path, "wb") as out:
-        begin = time.perf_counter()
-        child = subprocess.Popen([program] + words, stdin=source, stdout=out)
-        _, status, usage = os.wait4(child.pid, 0)
-        wall = time.perf_counter() - begin
-        child.returncode = os.waitstatus_to_exitcode(status)
-    if child.returncode != 0 or last_line(out_path) != wanted:
-        sys.exit("%s %s ended with %d and %r, not %r" % (program, " ".join(words), child.returncode, last_line(out_path), wanted))
-    return wall, usage.ru_maxrss / 1024
+    status, wall, _, peak = timed([program] + words, source_path, out_path)
+    if status != 0 or last_line(out_path) != wanted:
+        sys.exit("%s %s ended with %d and %r, not %r" % (program, " ".join(words), status, last_line(out_path), wanted))
+    return wall, peak
 
 
 def main():

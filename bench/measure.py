@@ -64,6 +64,17 @@ class Case:
         self.last_line = "events %d items %d refused 0 status 0" % (self.events, items)
 
 
+def timed(command, source_path, out_path):
+    """Runs a command from a file to a file: its exit code, wall seconds, CPU seconds and peak megabytes."""
+    with open(source_path, "rb") as source, open(out_path, "wb") as out:
+        begin = time.perf_counter()
+        child = subprocess.Popen(command, stdin=source, stdout=out)
+        _, status, usage = os.wait4(child.pid, 0)
+        wall = time.perf_counter() - begin
+        child.returncode = os.waitstatus_to_exitcode(status)
+    return child.returncode, wall, usage.ru_utime + usage.ru_stime, usage.ru_maxrss / 1024
+
+
 class Program:
     """A program with its measures, by case."""
 
@@ -73,21 +84,16 @@ class Program:
 
     def run(self, case, out_path, counted):
         """Runs the case once, checks the last line, and keeps the measures where the round is counted."""
-        with open(case.path, "rb") as source, open(out_path, "wb") as out:
-            begin = time.perf_counter()
-            child = subprocess.Popen([self.path, "plain"] + case.words, stdin=source, stdout=out)
-            _, status, usage = os.wait4(child.pid, 0)
-            wall = time.perf_counter() - begin
-            child.returncode = os.waitstatus_to_exitcode(status)
-        if child.returncode != 0:
-            sys.exit("%s ended with %d on %s" % (self.path, child.returncode, case.name))
+        status, wall, cpu, peak = timed([self.path, "plain"] + case.words, case.path, out_path)
+        if status != 0:
+            sys.exit("%s ended with %d on %s" % (self.path, status, case.name))
         line = last_line(out_path)
         if line != case.last_line:
             sys.exit("%s on %s: the last line is %r and not %r" % (self.path, case.name, line, case.last_line))
         if counted:
             self.wall.setdefault(case.name, []).append(wall)
-            self.cpu.setdefault(case.name, []).append(usage.ru_utime + usage.ru_stime)
-            self.peak.setdefault(case.name, []).append(usage.ru_maxrss / 1024)
+            self.cpu.setdefault(case.name, []).append(cpu)
+            self.peak.setdefault(case.name, []).append(peak)
 
     def median(self, measures, case):
         return statistics.median(measures[case.name])
