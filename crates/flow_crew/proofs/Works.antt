@@ -1,0 +1,180 @@
+-- What calls of the book leave of those who work.
+use Rattle.std.proofs.Common.{◌≡◌, ℕ, ◌+◌, ◌<◌, ◌≤◌, Bool, true, false, not, ◌&&◌, ◌||◌, Option, Some, None, List, [], ◌∷◌, ◌++◌, length, min, refl, sym, ap, ◌∙◌, subst, arith}
+use Rattle.std.specs.Prelude.{is_none, slice_get}
+use Rattle.std.specs.List.{list_any}
+use mathlib.Core.List.{IsPrefix}
+use Rattle.flow_item.specs.declared.event.Event.{Event}
+use Rattle.flow_item.specs.declared.event.Event.TheVariants as E
+use Rattle.flow_item.specs.declared.event.Stop.{Stop}
+use Rattle.flow_item.specs.declared.event.Stop.TheVariants.{Limit, Memory}
+use Rattle.flow_item.specs.declared.item.Msg.{Msg}
+use Rattle.flow_item.proofs.Journals.{replay-append}
+use Rattle.flow_item.proofs.Tests.{and_left, and_right, both_true}
+use Rattle.flow_machine.specs.Machine.{Task, is_leave, task_of, task_after}
+use Rattle.flow_line.specs.declared.view.About.{About}
+use Rattle.flow_line.specs.Values.{Sitting}
+use Rattle.flow_line.proofs.Beginnings.{prefix_self, prefix_trans, prefix_snoc}
+use Rattle.flow_book.specs.declared.machine.Run.{Run}
+use Rattle.flow_book.specs.declared.job.Job.{Job}
+use Rattle.flow_book.specs.declared.serve.Did.TheVariants as D
+use Rattle.flow_book.specs.Answers.{about_of, kept_first, IsKept, IsSame, IsDone, IsStopped, IsHalted}
+use Rattle.flow_book.specs.Callers.{is_caller_of, is_worker_about, is_idle_worker, may_call}
+use Rattle.flow_book.specs.Jobs.{IsJob, RunsJob}
+use Rattle.flow_book.specs.Serving.{IsServed}
+use Rattle.flow_book.specs.Stopped.{PassesKept, KeepsRefused}
+use Rattle.flow_book.proofs.Stored.{keeps-on}
+use Rattle.flow_crew.specs.Crew.{IsCaller, IsWorker, HasWorked}
+
+-- ---- what a chair keeps
+
+pub kept-same : (c d : Sitting Event Run) → IsSame c d → KeepsRefused c → KeepsRefused d
+kept-same c d s h = keeps-on c d s.0.about s.0.seen s.1 h
+
+pub kept-done : (c d : Sitting Event Run) (e : Event) → IsDone c e d → KeepsRefused c → KeepsRefused d
+kept-done c d e m h = keeps-on c d m.about (prefix_snoc c.seen m.log d.seen e m.start m.seen) m.kept h
+
+kept-stopped : (c d : Sitting Event Run) (e : Event) → IsStopped c e d → KeepsRefused c → KeepsRefused d
+kept-stopped c d e st h = by_kept c.kept refl
+  where
+    by_kept : (k : Option (Event × ℕ)) → c.kept ≡ k → KeepsRefused d
+    by_kept None at =
+        let now : d.kept ≡ Some (e, length d.seen) = st.kept ∙ ap (λ k. kept_first k e (length d.seen)) at in
+        let told : PassesKept d.about d.seen (Some (e, length d.seen)) = (d.seen, prefix_self d.seen, refl, st.limit) in
+        subst (λ (k : Option (Event × ℕ)). PassesKept d.about d.seen k) (sym now) told
+    by_kept (Some kept) at = keeps-on c d st.rest.about st.rest.seen (st.kept ∙ (ap (λ k. kept_first k e (length d.seen)) at ∙ sym at)) h
+
+-- what a refused call leaves of its chair
+pub halted-kept : (c d : Sitting Event Run) (Meant : Event → Type 0) (stop : Stop) → IsHalted c Meant d stop → IsKept c d
+halted-kept c d Meant Limit h = h.2.rest
+halted-kept c d Meant Memory h = h.0
+
+pub kept-halted : (c d : Sitting Event Run) (Meant : Event → Type 0) (stop : Stop) → IsHalted c Meant d stop → KeepsRefused c → KeepsRefused d
+kept-halted c d Meant Limit h k = kept-stopped c d h.0 h.2 k
+kept-halted c d Meant Memory h k = kept-same c d h k
+
+-- ---- what a chair's party made
+
+pub worked-none : (c : Sitting Event Run) → HasWorked c c
+worked-none c = record { party = refl; own = prefix_self c.own; seen = prefix_self c.seen }
+
+pub worked-on : (c d f : Sitting Event Run) → HasWorked c d → HasWorked d f → HasWorked c f
+worked-on c d f h g = record {
+  party = g.party ∙ h.party;
+  own = prefix_trans c.own d.own f.own h.own g.own;
+  seen = prefix_trans c.seen d.seen f.seen h.seen g.seen;
+}
+
+pub worked-kept : (c d : Sitting Event Run) → IsKept c d → HasWorked c d
+worked-kept c d k = record {
+  party = k.party;
+  own = subst (λ (es : List Event). IsPrefix c.own es) (sym k.own) (prefix_self c.own);
+  seen = k.seen;
+}
+
+pub worked-done : (c d : Sitting Event Run) (e : Event) → IsDone c e d → HasWorked c d
+worked-done c d e m = record {
+  party = m.party;
+  own = prefix_snoc c.own c.own d.own e (prefix_self c.own) m.own;
+  seen = prefix_snoc c.seen m.log d.seen e m.start m.seen;
+}
+
+-- ---- callers
+
+caller-on : (run : Run) (items events : ℕ) (c d : Sitting Event Run) → IsCaller run items events c → d.about ≡ c.about → d.party ≡ c.party → KeepsRefused d → IsCaller run items events d
+caller-on run items events c d w about party k = record {
+  about = about ∙ w.about;
+  caller = ap (is_caller_of run.callers) party ∙ w.caller;
+  kept = k;
+}
+
+pub caller-same : (run : Run) (items events : ℕ) (c d : Sitting Event Run) → IsCaller run items events c → IsSame c d → IsCaller run items events d
+caller-same run items events c d w s = caller-on run items events c d w s.0.about s.0.party (kept-same c d s w.kept)
+
+pub caller-done : (run : Run) (items events : ℕ) (c d : Sitting Event Run) (e : Event) → IsCaller run items events c → IsDone c e d → IsCaller run items events d
+caller-done run items events c d e w m = caller-on run items events c d w m.about m.party (kept-done c d e m w.kept)
+
+pub caller-halted : (run : Run) (items events : ℕ) (c d : Sitting Event Run) (Meant : Event → Type 0) (stop : Stop) → IsCaller run items events c → IsHalted c Meant d stop → IsCaller run items events d
+caller-halted run items events c d Meant stop w h =
+    let k = halted-kept c d Meant stop h in
+    caller-on run items events c d w k.about k.party (kept-halted c d Meant stop h w.kept)
+
+none-more : (test : Event → Bool) (es : List Event) (e : Event) → list_any test es ≡ false → test e ≡ false → list_any test (es ++ e ∷ []) ≡ false
+none-more test [] e h n = ap (λ b. b || false) n
+none-more test (x ∷ xs) e h n = by_first (test x) h (none-more test xs e)
+  where
+    by_first : (b : Bool) → (b || list_any test xs) ≡ false → (list_any test xs ≡ false → test e ≡ false → list_any test (xs ++ e ∷ []) ≡ false) → (b || list_any test (xs ++ e ∷ [])) ≡ false
+    by_first true h r = cc
+    by_first false h r = r h n
+
+not-false : (b : Bool) → not b ≡ true → b ≡ false
+not-false true h = cc
+not-false false h = refl
+
+-- a caller that made an event, but didn't leave, may go on
+pub calls-done : (run : Run) (c d : Sitting Event Run) (e : Event) → may_call run c ≡ true → IsDone c e d → is_leave e ≡ false → may_call run d ≡ true
+calls-done run c d e h m n =
+    let stays : list_any is_leave c.own ≡ false = not-false (list_any is_leave c.own) (and_right (is_caller_of run.callers c.party) (not (list_any is_leave c.own)) h) in
+    let there : is_caller_of run.callers d.party ≡ true = ap (is_caller_of run.callers) m.party ∙ and_left (is_caller_of run.callers c.party) (not (list_any is_leave c.own)) h in
+    let own : list_any is_leave d.own ≡ false = ap (list_any is_leave) m.own ∙ none-more is_leave c.own e stays n in
+    both_true {a = is_caller_of run.callers d.party} there (ap not own)
+
+-- and so may one that made none
+pub calls-kept : (run : Run) (c d : Sitting Event Run) → may_call run c ≡ true → IsKept c d → may_call run d ≡ true
+calls-kept run c d h k = (λ x. is_caller_of run.callers (k.party x) && not (list_any is_leave (k.own x))) ∙ h
+
+-- ---- workers
+
+worker-there : (c d : Sitting Event Run) → d.about ≡ c.about → d.party ≡ c.party → is_worker_about c.about c.party ≡ true → is_worker_about d.about d.party ≡ true
+worker-there c d about party h = (λ x. is_worker_about (about x) (party x)) ∙ h
+
+worker-kept : (run : Run) (items events : ℕ) (c d : Sitting Event Run) (busy : Bool) → IsWorker run items events c busy → IsKept c d → KeepsRefused d → IsWorker run items events d busy
+worker-kept run items events c d busy w k refused = record {
+  about = k.about ∙ w.about;
+  worker = worker-there c d k.about k.party w.worker;
+  kept = refused;
+  idle = λ b. ap (λ es. is_none (task_of es)) k.own ∙ w.idle b;
+}
+
+pub worker-same : (run : Run) (items events : ℕ) (c d : Sitting Event Run) (busy : Bool) → IsWorker run items events c busy → IsSame c d → IsWorker run items events d busy
+worker-same run items events c d busy w s = worker-kept run items events c d busy w s.0 (kept-same c d s w.kept)
+
+pub worker-halted : (run : Run) (items events : ℕ) (c d : Sitting Event Run) (busy : Bool) (Meant : Event → Type 0) (stop : Stop) → IsWorker run items events c busy → IsHalted c Meant d stop
+    → IsWorker run items events d busy
+worker-halted run items events c d busy Meant stop w h = worker-kept run items events c d busy w (halted-kept c d Meant stop h) (kept-halted c d Meant stop h w.kept)
+
+true-false : true ≡ false → ⊥
+true-false h = cc
+
+-- a worker that started something is busy
+pub worker-started : (run : Run) (items events : ℕ) (c d : Sitting Event Run) (busy : Bool) (e : Event) → IsWorker run items events c busy → IsDone c e d → IsWorker run items events d true
+worker-started run items events c d busy e w m = record {
+  about = m.about ∙ w.about;
+  worker = worker-there c d m.about m.party w.worker;
+  kept = kept-done c d e m w.kept;
+  idle = λ b. absurd (true-false b);
+}
+
+task-after : (c d : Sitting Event Run) (e : Event) → IsDone c e d → task_of d.own ≡ task_after (task_of c.own) e
+task-after c d e m = ap task_of m.own ∙ replay-append task_after None c.own (e ∷ [])
+
+-- and one that ended it isn't
+pub worker-ended : (run : Run) (items events : ℕ) (c d : Sitting Event Run) (busy now : Bool) (w n i number : ℕ) (outs : List Msg) → IsWorker run items events c busy → IsDone c (E.End w n i number outs) d
+    → IsWorker run items events d now
+worker-ended run items events c d busy now w n i number outs h m = record {
+  about = m.about ∙ h.about;
+  worker = worker-there c d m.about m.party h.worker;
+  kept = kept-done c d (E.End w n i number outs) m h.kept;
+  idle = λ b. ap (λ (t : Task). is_none t) (task-after c d (E.End w n i number outs) m);
+}
+
+-- the worker runs the job that it has started
+pub runs-started : (run : Run) (items events : ℕ) (n : ℕ) (c d : Sitting Event Run) (job : Job) → IsServed n c (D.Start job) d → c.about ≡ about_of run items events → RunsJob run d job
+runs-started run items events n c d job s about =
+    let log = s.2.0 in
+    let here : IsJob (about_of run items events) log job = subst (λ (o : Option (About Run)). IsJob o log job) (s.0.about ∙ about) s.2.2 in
+    let task : task_of d.own ≡ Some (n, job.item.id.no) = task-after c d (E.Start _ n job.item.id.no) s.0 in
+    let same : task_of d.own ≡ Some (job.node, job.item.id.no) = task ∙ ap (λ (m : ℕ). let t : Task = Some (m, job.item.id.no) in t) (sym s.1) in
+    (same, (here.0, here.1, here.2))
+
+pub idle-worker : (run : Run) (items events : ℕ) (c : Sitting Event Run) (busy : Bool) → IsWorker run items events c busy → busy ≡ false → is_idle_worker c ≡ true
+idle-worker run items events c busy w h = both_true {a = is_worker_about c.about c.party} w.worker (w.idle h)

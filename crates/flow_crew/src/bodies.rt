@@ -1,0 +1,74 @@
+//! The bodies that a graph runs.
+ghost use Rattle.std.specs.Prelude.{◌≡◌, ◌<◌, ◌^◌, ℕ, length};
+
+use flow_body::Shelf;
+use flow_item::{Item, NoMemory, Outs, Val};
+use std::alloc::Global;
+
+/// Bodies by their numbers, as those of a shelf. A graph is generic over it: what stands behind locks isn't stated beside
+/// a `dyn`.
+pub trait Bodies: Sync {
+    /// How many there are.
+    ghost count: { Self → ℕ };
+
+    /// How many there are.
+    fn count(&self) -> u32
+        ensures { result ≡ count self.now };
+
+    /// The messages of the body of this number for an item under a node's argument. Want of memory is the one error.
+    fn run(&self, alloc: Global, body: u32, arg: &Val, item: &Item) -> Result<Outs, NoMemory>
+        requires { body < count self.now };
+}
+
+impl Bodies for Shelf {
+    ghost use Rattle.std.specs.Prelude.{length};
+
+    ghost count = { λ s. length s.bodies.items };
+
+    fn count(&self) -> u32 {
+        self.len() as u32
+    }
+
+    fn run(&self, alloc: Global, body: u32, arg: &Val, item: &Item) -> Result<Outs, NoMemory> {
+        match self.body(body) {
+            Some(body) => {
+                let outs = body.run(alloc, arg, item)?;
+                Ok(outs)
+            }
+            None => unreachable!(),
+        }
+    }
+}
+
+// Bodies, lent, with their number.
+#[derive(Drop)]
+pub(crate) struct Bench<'a, S: Bodies> {
+    pub(crate) bodies: &'a S,
+    pub(crate) count: u32,
+    ghost counted: { count ≡ S.count bodies.now },
+}
+
+impl<'a, S: Bodies> Bench<'a, S> {
+    // These bodies.
+    pub(crate) fn of(bodies: &'a S) -> Bench<'a, S>
+        ensures { result.count ≡ S.count bodies.now }
+    {
+        Bench {
+            bodies,
+            count: bodies.count(),
+        }
+    }
+
+    // The messages of a body.
+    pub(crate) fn run(
+        &self,
+        alloc: Global,
+        body: u32,
+        arg: &Val,
+        item: &Item,
+    ) -> Result<Outs, NoMemory>
+        requires { body < self.now.count }
+    {
+        self.bodies.run(alloc, body, arg, item)
+    }
+}
