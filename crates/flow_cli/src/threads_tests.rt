@@ -1,6 +1,9 @@
 // Documents run on threads.
-use crate::tests::{built_in_shelf, sink, source, words_of};
-use crate::{flow_top, plain_top};
+use crate::flow_top;
+use crate::tests::{call as plain_call, sink, source, words_of};
+use flow_body::{
+    Add, Builtins, CountTo, Echo, FailMemory, Len, Mul, Neg, Pair, Part, SplitEven, builtin_shelf,
+};
 use flow_doc::Kept;
 use flow_io::{MemSink, MemSource};
 use flow_item::{Event, NoMemory};
@@ -23,7 +26,19 @@ fn serve<R: Threads + Wait + Sync, G: Gate>(
     sink: &mut MemSink,
     gate: &G,
 ) -> Result<(Status, Kept), NoMemory> {
-    let shelf = built_in_shelf(alloc)?;
+    let bodies = Builtins {
+        add: Box::new(alloc, Add)?,
+        mul: Box::new(alloc, Mul)?,
+        neg: Box::new(alloc, Neg)?,
+        len: Box::new(alloc, Len)?,
+        part: Box::new(alloc, Part)?,
+        pair: Box::new(alloc, Pair)?,
+        echo: Box::new(alloc, Echo)?,
+        split_even: Box::new(alloc, SplitEven)?,
+        count_to: Box::new(alloc, CountTo)?,
+        fail_memory: Box::new(alloc, FailMemory)?,
+    };
+    let shelf = builtin_shelf(alloc, bodies)?;
     let mut kept = Kept::new(alloc);
     let status = flow_top(
         rt, alloc, words, source, sink, &shelf, &Builtin, gate, &mut kept,
@@ -204,17 +219,7 @@ fn a_body_without_memory(rt: HostRuntime) -> Result<(), Fail> {
 fn generated(alloc: Global) -> Result<String, Fail> {
     let mut source = source(alloc, "")?;
     let mut sink = sink(alloc);
-    let words = words_of(alloc, "gen 100 --text")?;
-    let shelf = built_in_shelf(alloc).ok().ok_or("no memory")?;
-    let mut kept = Kept::new(alloc);
-    let status = plain_top(
-        alloc,
-        words.as_slice(),
-        &mut source,
-        &mut sink,
-        &shelf,
-        &mut kept,
-    );
+    let (status, _) = plain_call(alloc, "gen 100 --text", &mut source, &mut sink)?;
     if status.code() != 0 {
         return Err(Fail::from("no text"));
     }
