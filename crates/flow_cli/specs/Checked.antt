@@ -6,7 +6,7 @@ use Rattle.flow_doc.specs.declared.Kept.{Kept}
 use Rattle.flow_doc.specs.declared.DocFault.{DocFault}
 use Rattle.flow_doc.specs.declared.DocFault.TheVariants as D
 use Rattle.flow_doc.specs.Reading.{document}
-use Rattle.flow_body.specs.Laws.{SinglesAnswerOnce}
+use Rattle.flow_determinacy.specs.Singles.{SinglesAnswerOnce}
 use Rattle.flow_mean.specs.Determinate.{IsDeterminate}
 use Rattle.flow_io.specs.Whole.{Took}
 use Rattle.flow_print.specs.declared.status.Status.{Status}
