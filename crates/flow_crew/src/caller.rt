@@ -2,6 +2,9 @@
 ghost use Rattle.std.specs.Prelude.{◌≡◌, true, false, IfSome, IfNone, IfOk, IfErr, OnOk};
 ghost use Rattle.flow_item.specs.declared.event.PutAnswer.{PutAnswer};
 ghost use Rattle.flow_item.specs.declared.event.Event.TheVariants as E;
+ghost use Rattle.flow_item.specs.declared.event.Party.TheVariants.{Caller as of_caller};
+ghost use Rattle.flow_item.specs.Events.{parties_of};
+ghost use Rattle.flow_item.specs.Legal.{projection};
 ghost use Rattle.flow_pool.specs.Posts.{IsPostOf};
 ghost use Rattle.flow_book.specs.Answers.{IsDone, IsHalted, IsSame, Was};
 ghost use Rattle.flow_book.specs.Callers.{number_of, may_call, takes_puts, takes_acts};
@@ -12,7 +15,7 @@ use crate::graph::Graph;
 use crate::waited::Waited;
 use crate::worker::{Turn, Worker};
 use flow_book::{Gate, GraphMachine};
-use flow_item::{PutAnswer, Stop, Val};
+use flow_item::{Party, PutAnswer, Stop, Val};
 use flow_line::{Chair, Naming};
 use std::alloc::Global;
 use std::sync::Wait;
@@ -25,6 +28,20 @@ pub struct Caller<B: Naming> {
 }
 
 impl<B: Naming> Caller<B> {
+    /// Its number. Its own events are all of its party in what it has seen.
+    pub fn number<S: Bodies, G: Gate>(&self, graph: &Graph<S, G, B>) -> u32
+        requires { IsCaller (S.meanings graph.now.bench.bodies.now) graph.now.book.run graph.now.book.items graph.now.book.events self.now.chair }
+        ensures number { self.now.chair.party ≡ of_caller result }
+        ensures own { self.now.chair.own ≡ projection parties_of self.now.chair.party self.now.chair.seen }
+    {
+        let _ = graph;
+        let _ = self.chair.own_len();
+        match self.chair.party() {
+            Party::Caller(number) => number,
+            _ => unreachable!(),
+        }
+    }
+
     /// Puts a value to a node.
     pub fn put<R: Wait, S: Bodies, G: Gate>(
         &mut self,

@@ -1,5 +1,8 @@
 //! A worker of a graph.
 ghost use Rattle.std.specs.Prelude.{◌≡◌, ◌<◌, true, false, not, length, IfSome, IfNone};
+ghost use Rattle.flow_item.specs.declared.event.Party.TheVariants.{Worker as of_worker};
+ghost use Rattle.flow_item.specs.Events.{parties_of};
+ghost use Rattle.flow_item.specs.Legal.{projection};
 ghost use Rattle.flow_pool.specs.Posts.{IsPostOf};
 ghost use Rattle.flow_book.specs.Answers.{IsSame};
 ghost use Rattle.flow_book.specs.Jobs.{RunsJob, is_submit};
@@ -10,7 +13,7 @@ use crate::bodies::Bodies;
 use crate::graph::Graph;
 use crate::waited::Waited;
 use flow_book::{Did, Gate, GraphMachine, Job};
-use flow_item::Outs;
+use flow_item::{Outs, Party};
 use flow_line::{Chair, Naming};
 use flow_pool::Post;
 use std::alloc::Global;
@@ -46,6 +49,20 @@ fn turn_of(well: bool) -> Turn
 }
 
 impl<B: Naming> Worker<B> {
+    /// Its number. Its own events are all of its party in what it has seen.
+    pub fn number<S: Bodies, G: Gate>(&self, graph: &Graph<S, G, B>) -> u32
+        requires { IsWorker (S.meanings graph.now.bench.bodies.now) graph.now.book.run graph.now.book.items graph.now.book.events self.now.chair self.now.busy }
+        ensures number { self.now.chair.party ≡ of_worker result }
+        ensures own { self.now.chair.own ≡ projection parties_of self.now.chair.party self.now.chair.seen }
+    {
+        let _ = graph;
+        let _ = self.chair.own_len();
+        match self.chair.party() {
+            Party::Worker(number) => number,
+            _ => unreachable!(),
+        }
+    }
+
     // Serves a node of the pool.
     pub(crate) fn turn<R: Wait, S: Bodies, G: Gate>(
         &mut self,
