@@ -1,5 +1,6 @@
 //! The bodies that a graph runs.
-ghost use Rattle.std.specs.Prelude.{◌≡◌, ◌<◌, ◌^◌, ℕ, length};
+ghost use Rattle.std.specs.Prelude.{◌≡◌, ◌<◌, ℕ, true, IfOk};
+ghost use Rattle.flow_machine.specs.Bodies.{Meanings};
 
 use flow_body::Shelf;
 use flow_item::{Item, NoMemory, Outs, Val};
@@ -11,19 +12,27 @@ pub trait Bodies: Sync {
     /// How many there are.
     ghost count: { Self → ℕ };
 
+    /// What they mean.
+    ghost meanings: { Self → Meanings };
+
     /// How many there are.
     fn count(&self) -> u32
         ensures { result ≡ count self.now };
 
     /// The messages of the body of this number for an item under a node's argument. Want of memory is the one error.
     fn run(&self, alloc: Global, body: u32, arg: &Val, item: &Item) -> Result<Outs, NoMemory>
-        requires { body < count self.now };
+        requires { body < count self.now }
+        ensures { (meanings self.now).is_pure body ≡ true
+            → IfOk result (λ outs. outs ≡ (meanings self.now).out body arg.now item.now.tag item.now.val) };
 }
 
 impl Bodies for Shelf {
     ghost use Rattle.std.specs.Prelude.{length};
+    ghost use Rattle.flow_body.specs.Shelves.{meanings_of_shelf};
 
     ghost count = { λ s. length s.bodies.items };
+
+    ghost meanings = { λ s. meanings_of_shelf (λ n. pure (n.body.vtable, n.body.value)) (λ n. single (n.body.vtable, n.body.value)) (λ n. out (n.body.vtable, n.body.value)) s.bodies.items };
 
     fn count(&self) -> u32 {
         self.len() as u32
@@ -51,7 +60,8 @@ pub(crate) struct Bench<'a, S: Bodies> {
 impl<'a, S: Bodies> Bench<'a, S> {
     // These bodies.
     pub(crate) fn of(bodies: &'a S) -> Bench<'a, S>
-        ensures { result.count ≡ S.count bodies.now }
+        ensures count { result.count ≡ S.count bodies.now }
+        ensures bodies { result.bodies.now ≡ bodies.now }
     {
         Bench {
             bodies,
@@ -68,6 +78,8 @@ impl<'a, S: Bodies> Bench<'a, S> {
         item: &Item,
     ) -> Result<Outs, NoMemory>
         requires { body < self.now.count }
+        ensures { (S.meanings self.now.bodies.now).is_pure body ≡ true
+            → IfOk result (λ outs. outs ≡ (S.meanings self.now.bodies.now).out body arg.now item.now.tag item.now.val) }
     {
         self.bodies.run(alloc, body, arg, item)
     }

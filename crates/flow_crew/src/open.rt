@@ -149,9 +149,9 @@ impl<'a, S: Bodies, G: Gate, B: Naming> Graph<'a, S, G, B> {
         ensures callers { IfOk result (λ r. map (λ c. c.chair) r.callers.items ≡ fresh_chairs r.graph.book.run items events (callers_of r.graph.book.run)) }
         ensures workers { IfOk result (λ r. map (λ w. w.chair) r.workers.items ++ map (λ c. c.worker.chair) r.callers.items ≡ fresh_chairs r.graph.book.run items events (workers_of r.graph.book.run)) }
         ensures counts { IfOk result (λ r. (length r.callers.items ≡ length doc.now.scripts) × (length r.workers.items ≡ workers)) }
-        ensures ready { IfOk result (λ r. All (λ c. IsCaller r.graph.book.run items events c.chair × (may_call r.graph.book.run c.chair ≡ true)) r.callers.items) }
-        ensures waiters { IfOk result (λ r. All (λ c. IsWorker r.graph.book.run items events c.worker.chair c.worker.busy × IsPostOf r.graph.pool c.worker.post) r.callers.items) }
-        ensures hired { IfOk result (λ r. All (λ w. IsWorker r.graph.book.run items events w.chair w.busy × IsPostOf r.graph.pool w.post) r.workers.items) }
+        ensures ready { IfOk result (λ r. All (λ c. IsCaller (S.meanings r.graph.bench.bodies.now) r.graph.book.run items events c.chair × (may_call r.graph.book.run c.chair ≡ true)) r.callers.items) }
+        ensures waiters { IfOk result (λ r. All (λ c. IsWorker (S.meanings r.graph.bench.bodies.now) r.graph.book.run items events c.worker.chair c.worker.busy × IsPostOf r.graph.pool c.worker.post) r.callers.items) }
+        ensures hired { IfOk result (λ r. All (λ w. IsWorker (S.meanings r.graph.bench.bodies.now) r.graph.book.run items events w.chair w.busy × IsPostOf r.graph.pool w.post) r.workers.items) }
         ensures empty { IfOk result (λ r. (r.seats.callers.items ≡ []) × (r.seats.workers.items ≡ [])) }
         ensures room { IfOk result (λ r. (length r.callers.items ≤ r.seats.callers.spare) × (length r.workers.items + length r.callers.items ≤ r.seats.workers.spare)) }
     {

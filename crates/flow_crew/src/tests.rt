@@ -102,11 +102,11 @@ fn put_five<B: Naming, S: Bodies, R: Wait + Abort>(
     graph: &Graph<S, NoGate, B>,
     caller: &mut Caller<B>,
 )
-    requires of { IsCaller graph.now.book.run graph.now.book.items graph.now.book.events caller.old.chair }
+    requires of { IsCaller (S.meanings graph.now.bench.bodies.now) graph.now.book.run graph.now.book.items graph.now.book.events caller.old.chair }
     requires post { IsPostOf graph.now.pool caller.old.worker.post }
     requires calls { may_call graph.now.book.run caller.old.chair ≡ true }
     requires port { takes_puts graph.now.book.run.shape 0 0 ≡ true }
-    ensures of { IsCaller graph.now.book.run graph.now.book.items graph.now.book.events caller.new.chair }
+    ensures of { IsCaller (S.meanings graph.now.bench.bodies.now) graph.now.book.run graph.now.book.items graph.now.book.events caller.new.chair }
     ensures post { IsPostOf graph.now.pool caller.new.worker.post }
     ensures calls { may_call graph.now.book.run caller.new.chair ≡ true }
     ensures worker { (caller.new.worker.chair ≡ caller.old.worker.chair) × (caller.new.worker.busy ≡ caller.old.worker.busy) }
@@ -122,13 +122,13 @@ fn call<B: Naming, S: Bodies, R: Wait + Abort>(
     graph: &Graph<S, NoGate, B>,
     caller: &mut Caller<B>,
 )
-    requires of { IsCaller graph.now.book.run graph.now.book.items graph.now.book.events caller.old.chair }
-    requires worker { IsWorker graph.now.book.run graph.now.book.items graph.now.book.events caller.old.worker.chair caller.old.worker.busy }
+    requires of { IsCaller (S.meanings graph.now.bench.bodies.now) graph.now.book.run graph.now.book.items graph.now.book.events caller.old.chair }
+    requires worker { IsWorker (S.meanings graph.now.bench.bodies.now) graph.now.book.run graph.now.book.items graph.now.book.events caller.old.worker.chair caller.old.worker.busy }
     requires post { IsPostOf graph.now.pool caller.old.worker.post }
     requires calls { may_call graph.now.book.run caller.old.chair ≡ true }
     requires port { takes_puts graph.now.book.run.shape 0 0 ≡ true }
-    ensures of { IsCaller graph.now.book.run graph.now.book.items graph.now.book.events caller.new.chair }
-    ensures worker { IsWorker graph.now.book.run graph.now.book.items graph.now.book.events caller.new.worker.chair caller.new.worker.busy }
+    ensures of { IsCaller (S.meanings graph.now.bench.bodies.now) graph.now.book.run graph.now.book.items graph.now.book.events caller.new.chair }
+    ensures worker { IsWorker (S.meanings graph.now.bench.bodies.now) graph.now.book.run graph.now.book.items graph.now.book.events caller.new.worker.chair caller.new.worker.busy }
 {
     put_five(rt, alloc, graph, caller);
     let waited = caller.wait_for_all(alloc, rt, graph);
@@ -144,9 +144,9 @@ fn work<B: Naming, S: Bodies, R: Wait + Abort>(
     graph: &Graph<S, NoGate, B>,
     worker: &mut Worker<B>,
 )
-    requires of { IsWorker graph.now.book.run graph.now.book.items graph.now.book.events worker.old.chair worker.old.busy }
+    requires of { IsWorker (S.meanings graph.now.bench.bodies.now) graph.now.book.run graph.now.book.items graph.now.book.events worker.old.chair worker.old.busy }
     requires post { IsPostOf graph.now.pool worker.old.post }
-    ensures { IsWorker graph.now.book.run graph.now.book.items graph.now.book.events worker.new.chair worker.new.busy }
+    ensures { IsWorker (S.meanings graph.now.bench.bodies.now) graph.now.book.run graph.now.book.items graph.now.book.events worker.new.chair worker.new.busy }
 {
     let waited = worker.run(alloc, rt, graph);
     assert!(rt; matches!(waited, Waited::Quiet));
@@ -158,11 +158,11 @@ fn last_caller<B: Naming, S: Bodies, R: Abort>(
     graph: &Graph<S, NoGate, B>,
     callers: &mut Vec<Caller<B>>,
 ) -> Caller<B>
-    requires ready { All (λ c. IsCaller graph.now.book.run graph.now.book.items graph.now.book.events c.chair × (may_call graph.now.book.run c.chair ≡ true)) callers.old.items }
-    requires waiters { All (λ c. IsWorker graph.now.book.run graph.now.book.items graph.now.book.events c.worker.chair c.worker.busy × IsPostOf graph.now.pool c.worker.post) callers.old.items }
-    ensures of { IsCaller graph.now.book.run graph.now.book.items graph.now.book.events result.chair }
+    requires ready { All (λ c. IsCaller (S.meanings graph.now.bench.bodies.now) graph.now.book.run graph.now.book.items graph.now.book.events c.chair × (may_call graph.now.book.run c.chair ≡ true)) callers.old.items }
+    requires waiters { All (λ c. IsWorker (S.meanings graph.now.bench.bodies.now) graph.now.book.run graph.now.book.items graph.now.book.events c.worker.chair c.worker.busy × IsPostOf graph.now.pool c.worker.post) callers.old.items }
+    ensures of { IsCaller (S.meanings graph.now.bench.bodies.now) graph.now.book.run graph.now.book.items graph.now.book.events result.chair }
     ensures calls { may_call graph.now.book.run result.chair ≡ true }
-    ensures worker { IsWorker graph.now.book.run graph.now.book.items graph.now.book.events result.worker.chair result.worker.busy }
+    ensures worker { IsWorker (S.meanings graph.now.bench.bodies.now) graph.now.book.run graph.now.book.items graph.now.book.events result.worker.chair result.worker.busy }
     ensures post { IsPostOf graph.now.pool result.worker.post }
 {
     let _ = graph;
@@ -178,8 +178,8 @@ fn last_worker<B: Naming, S: Bodies, R: Abort>(
     graph: &Graph<S, NoGate, B>,
     workers: &mut Vec<Worker<B>>,
 ) -> Worker<B>
-    requires { All (λ w. IsWorker graph.now.book.run graph.now.book.items graph.now.book.events w.chair w.busy × IsPostOf graph.now.pool w.post) workers.old.items }
-    ensures { IsWorker graph.now.book.run graph.now.book.items graph.now.book.events result.chair result.busy × IsPostOf graph.now.pool result.post }
+    requires { All (λ w. IsWorker (S.meanings graph.now.bench.bodies.now) graph.now.book.run graph.now.book.items graph.now.book.events w.chair w.busy × IsPostOf graph.now.pool w.post) workers.old.items }
+    ensures { IsWorker (S.meanings graph.now.bench.bodies.now) graph.now.book.run graph.now.book.items graph.now.book.events result.chair result.busy × IsPostOf graph.now.pool result.post }
 {
     let _ = graph;
     match workers.pop() {

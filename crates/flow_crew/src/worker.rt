@@ -1,15 +1,19 @@
 //! A worker of a graph.
 ghost use Rattle.std.specs.Prelude.{◌≡◌, ◌<◌, true, false, not, length, IfSome, IfNone};
+ghost use Rattle.flow_item.specs.declared.event.Party.TheVariants.{Worker as of_worker};
+ghost use Rattle.flow_item.specs.Events.{parties_of};
+ghost use Rattle.flow_item.specs.Legal.{projection};
 ghost use Rattle.flow_pool.specs.Posts.{IsPostOf};
 ghost use Rattle.flow_book.specs.Answers.{IsSame};
 ghost use Rattle.flow_book.specs.Jobs.{RunsJob, is_submit};
-ghost use Rattle.flow_crew.specs.Crew.{HasWorked, IsEnded, IsGiven, IsWorker, is_refused, is_started};
+ghost use Rattle.flow_crew.specs.Bodies.{answers_job};
+ghost use Rattle.flow_crew.specs.Crew.{HasBegun, HasWorked, IsEnded, IsGiven, IsWorker, is_refused, is_started};
 
 use crate::bodies::Bodies;
 use crate::graph::Graph;
 use crate::waited::Waited;
 use flow_book::{Did, Gate, GraphMachine, Job};
-use flow_item::Outs;
+use flow_item::{Outs, Party};
 use flow_line::{Chair, Naming};
 use flow_pool::Post;
 use std::alloc::Global;
@@ -45,6 +49,20 @@ fn turn_of(well: bool) -> Turn
 }
 
 impl<B: Naming> Worker<B> {
+    /// Its number. Its own events are all of its party in what it has seen.
+    pub fn number<S: Bodies, G: Gate>(&self, graph: &Graph<S, G, B>) -> u32
+        requires { IsWorker (S.meanings graph.now.bench.bodies.now) graph.now.book.run graph.now.book.items graph.now.book.events self.now.chair self.now.busy }
+        ensures number { self.now.chair.party ≡ of_worker result }
+        ensures own { self.now.chair.own ≡ projection parties_of self.now.chair.party self.now.chair.seen }
+    {
+        let _ = graph;
+        let _ = self.chair.own_len();
+        match self.chair.party() {
+            Party::Worker(number) => number,
+            _ => unreachable!(),
+        }
+    }
+
     // Serves a node of the pool.
     pub(crate) fn turn<R: Wait, S: Bodies, G: Gate>(
         &mut self,
@@ -52,10 +70,10 @@ impl<B: Naming> Worker<B> {
         rt: &R,
         graph: &Graph<S, G, B>,
     ) -> Turn
-        requires of { IsWorker graph.now.book.run graph.now.book.items graph.now.book.events self.old.chair self.old.busy }
+        requires of { IsWorker (S.meanings graph.now.bench.bodies.now) graph.now.book.run graph.now.book.items graph.now.book.events self.old.chair self.old.busy }
         requires post { IsPostOf graph.now.pool self.old.post }
         requires idle { self.old.busy ≡ false }
-        ensures of { IsWorker graph.now.book.run graph.now.book.items graph.now.book.events self.new.chair self.new.busy }
+        ensures of { IsWorker (S.meanings graph.now.bench.bodies.now) graph.now.book.run graph.now.book.items graph.now.book.events self.new.chair self.new.busy }
         ensures post { IsPostOf graph.now.pool self.new.post }
         ensures worked { HasWorked self.old.chair self.new.chair }
         ensures idle { is_refused result ≡ false → self.new.busy ≡ false }
@@ -73,10 +91,10 @@ impl<B: Naming> Worker<B> {
         rt: &R,
         graph: &Graph<S, G, B>,
     ) -> Turn
-        requires of { IsWorker graph.now.book.run graph.now.book.items graph.now.book.events self.old.chair self.old.busy }
+        requires of { IsWorker (S.meanings graph.now.bench.bodies.now) graph.now.book.run graph.now.book.items graph.now.book.events self.old.chair self.old.busy }
         requires post { IsPostOf graph.now.pool self.old.post }
         requires idle { self.old.busy ≡ false }
-        ensures of { IsWorker graph.now.book.run graph.now.book.items graph.now.book.events self.new.chair self.new.busy }
+        ensures of { IsWorker (S.meanings graph.now.bench.bodies.now) graph.now.book.run graph.now.book.items graph.now.book.events self.new.chair self.new.busy }
         ensures post { IsPostOf graph.now.pool self.new.post }
         ensures worked { HasWorked self.old.chair self.new.chair }
         ensures idle { is_refused result ≡ false → self.new.busy ≡ false }
@@ -100,11 +118,11 @@ impl<B: Naming> Worker<B> {
         graph: &Graph<S, G, B>,
         node: u32,
     ) -> Turn
-        requires of { IsWorker graph.now.book.run graph.now.book.items graph.now.book.events self.old.chair self.old.busy }
+        requires of { IsWorker (S.meanings graph.now.bench.bodies.now) graph.now.book.run graph.now.book.items graph.now.book.events self.old.chair self.old.busy }
         requires post { IsPostOf graph.now.pool self.old.post }
         requires idle { self.old.busy ≡ false }
         requires node { node < length graph.now.book.run.shape.nodes }
-        ensures of { IsWorker graph.now.book.run graph.now.book.items graph.now.book.events self.new.chair self.new.busy }
+        ensures of { IsWorker (S.meanings graph.now.bench.bodies.now) graph.now.book.run graph.now.book.items graph.now.book.events self.new.chair self.new.busy }
         ensures post { IsPostOf graph.now.pool self.new.post }
         ensures worked { HasWorked self.old.chair self.new.chair }
         ensures idle { is_refused result ≡ false → self.new.busy ≡ false }
@@ -115,6 +133,7 @@ impl<B: Naming> Worker<B> {
         {
             Ok(did) => {
                 let _ = self.chair.len();
+                let _ = self.chair.own_len();
                 self.follow(alloc, rt, graph, did)
             }
             Err(_) => Turn::Refused,
@@ -129,11 +148,11 @@ impl<B: Naming> Worker<B> {
         graph: &Graph<S, G, B>,
         did: Did,
     ) -> Turn
-        requires of { IsWorker graph.now.book.run graph.now.book.items graph.now.book.events self.old.chair (is_started did) }
+        requires of { IsWorker (S.meanings graph.now.bench.bodies.now) graph.now.book.run graph.now.book.items graph.now.book.events self.old.chair (is_started did) }
         requires post { IsPostOf graph.now.pool self.old.post }
         requires idle { self.old.busy ≡ false }
         requires given { IsGiven graph.now.book.run self.old.chair did }
-        ensures of { IsWorker graph.now.book.run graph.now.book.items graph.now.book.events self.new.chair self.new.busy }
+        ensures of { IsWorker (S.meanings graph.now.bench.bodies.now) graph.now.book.run graph.now.book.items graph.now.book.events self.new.chair self.new.busy }
         ensures post { IsPostOf graph.now.pool self.new.post }
         ensures worked { HasWorked self.old.chair self.new.chair }
         ensures idle { is_refused result ≡ false → self.new.busy ≡ false }
@@ -156,11 +175,12 @@ impl<B: Naming> Worker<B> {
         graph: &Graph<S, G, B>,
         job: Job,
     ) -> Turn
-        requires of { IsWorker graph.now.book.run graph.now.book.items graph.now.book.events self.old.chair true }
+        requires of { IsWorker (S.meanings graph.now.bench.bodies.now) graph.now.book.run graph.now.book.items graph.now.book.events self.old.chair true }
         requires post { IsPostOf graph.now.pool self.old.post }
         requires runs { RunsJob graph.now.book.run self.old.chair job }
+        requires begun { HasBegun self.old.chair job }
         requires node { job.node < length graph.now.book.run.shape.nodes }
-        ensures of { IsWorker graph.now.book.run graph.now.book.items graph.now.book.events self.new.chair self.new.busy }
+        ensures of { IsWorker (S.meanings graph.now.bench.bodies.now) graph.now.book.run graph.now.book.items graph.now.book.events self.new.chair self.new.busy }
         ensures post { IsPostOf graph.now.pool self.new.post }
         ensures worked { HasWorked self.old.chair self.new.chair }
         ensures idle { is_refused result ≡ false → self.new.busy ≡ false }
@@ -186,13 +206,15 @@ impl<B: Naming> Worker<B> {
         job: Job,
         outs: Outs,
     ) -> Turn
-        requires of { IsWorker graph.now.book.run graph.now.book.items graph.now.book.events self.old.chair true }
+        requires of { IsWorker (S.meanings graph.now.bench.bodies.now) graph.now.book.run graph.now.book.items graph.now.book.events self.old.chair true }
         requires post { IsPostOf graph.now.pool self.old.post }
         requires busy { self.old.busy ≡ true }
         requires runs { RunsJob graph.now.book.run self.old.chair job }
+        requires begun { HasBegun self.old.chair job }
         requires body { is_submit job.body ≡ false }
+        requires answers { answers_job (S.meanings graph.now.bench.bodies.now) job.body job.item outs ≡ true }
         requires node { job.node < length graph.now.book.run.shape.nodes }
-        ensures of { IsWorker graph.now.book.run graph.now.book.items graph.now.book.events self.new.chair self.new.busy }
+        ensures of { IsWorker (S.meanings graph.now.bench.bodies.now) graph.now.book.run graph.now.book.items graph.now.book.events self.new.chair self.new.busy }
         ensures post { IsPostOf graph.now.pool self.new.post }
         ensures worked { HasWorked self.old.chair self.new.chair }
         ensures idle { is_refused result ≡ false → self.new.busy ≡ false }
@@ -226,9 +248,9 @@ impl<B: Naming> Worker<B> {
         rt: &R,
         graph: &Graph<S, G, B>,
     ) -> Option<Waited>
-        requires of { IsWorker graph.now.book.run graph.now.book.items graph.now.book.events self.old.chair self.old.busy }
+        requires of { IsWorker (S.meanings graph.now.bench.bodies.now) graph.now.book.run graph.now.book.items graph.now.book.events self.old.chair self.old.busy }
         requires post { IsPostOf graph.now.pool self.old.post }
-        ensures of { IsWorker graph.now.book.run graph.now.book.items graph.now.book.events self.new.chair self.new.busy }
+        ensures of { IsWorker (S.meanings graph.now.bench.bodies.now) graph.now.book.run graph.now.book.items graph.now.book.events self.new.chair self.new.busy }
         ensures post { IsPostOf graph.now.pool self.new.post }
         ensures worked { HasWorked self.old.chair self.new.chair }
         ensures busy { self.new.busy ≡ self.old.busy }
@@ -246,8 +268,8 @@ impl<B: Naming> Worker<B> {
         rt: &R,
         graph: &Graph<S, G, B>,
     ) -> Option<Waited>
-        requires of { IsWorker graph.now.book.run graph.now.book.items graph.now.book.events self.old.chair self.old.busy }
-        ensures of { IsWorker graph.now.book.run graph.now.book.items graph.now.book.events self.new.chair self.new.busy }
+        requires of { IsWorker (S.meanings graph.now.bench.bodies.now) graph.now.book.run graph.now.book.items graph.now.book.events self.old.chair self.old.busy }
+        ensures of { IsWorker (S.meanings graph.now.bench.bodies.now) graph.now.book.run graph.now.book.items graph.now.book.events self.new.chair self.new.busy }
         ensures same { (self.new.busy ≡ self.old.busy) × (self.new.post ≡ self.old.post) }
         ensures worked { IsSame self.old.chair self.new.chair }
         ensures ended { IfSome result (λ w. IsEnded graph.now.book.run self.old.chair w self.new.chair) }
@@ -273,10 +295,10 @@ impl<B: Naming> Worker<B> {
         rt: &R,
         graph: &Graph<S, G, B>,
     ) -> Option<Waited>
-        requires of { IsWorker graph.now.book.run graph.now.book.items graph.now.book.events self.old.chair self.old.busy }
+        requires of { IsWorker (S.meanings graph.now.bench.bodies.now) graph.now.book.run graph.now.book.items graph.now.book.events self.old.chair self.old.busy }
         requires post { IsPostOf graph.now.pool self.old.post }
         requires idle { self.old.busy ≡ false }
-        ensures of { IsWorker graph.now.book.run graph.now.book.items graph.now.book.events self.new.chair self.new.busy }
+        ensures of { IsWorker (S.meanings graph.now.bench.bodies.now) graph.now.book.run graph.now.book.items graph.now.book.events self.new.chair self.new.busy }
         ensures post { IsPostOf graph.now.pool self.new.post }
         ensures worked { HasWorked self.old.chair self.new.chair }
         ensures idle { IfNone result (self.new.busy ≡ false) }
@@ -305,9 +327,9 @@ impl<B: Naming> Worker<B> {
         rt: &R,
         graph: &Graph<S, G, B>,
     ) -> Waited
-        requires of { IsWorker graph.now.book.run graph.now.book.items graph.now.book.events self.old.chair self.old.busy }
+        requires of { IsWorker (S.meanings graph.now.bench.bodies.now) graph.now.book.run graph.now.book.items graph.now.book.events self.old.chair self.old.busy }
         requires post { IsPostOf graph.now.pool self.old.post }
-        ensures of { IsWorker graph.now.book.run graph.now.book.items graph.now.book.events self.new.chair self.new.busy }
+        ensures of { IsWorker (S.meanings graph.now.bench.bodies.now) graph.now.book.run graph.now.book.items graph.now.book.events self.new.chair self.new.busy }
         ensures post { IsPostOf graph.now.pool self.new.post }
         ensures worked { HasWorked self.old.chair self.new.chair }
         ensures ended { IsEnded graph.now.book.run self.old.chair result self.new.chair }
