@@ -3,21 +3,19 @@ use Rattle.std.proofs.Common.{◌≡◌, ℕ, ◌<◌, Bool, true, false, ◌&&�
 use Rattle.std.proofs.lemmas.Bool.{ltb-true}
 use Rattle.std.proofs.lemmas.List.{append-nil}
 use Rattle.std.specs.List.{list_all}
-use mathlib.Core.List.{IsPrefix}
 use Rattle.flow_item.specs.declared.event.Event.{Event}
 use Rattle.flow_item.specs.declared.event.Event.TheVariants as E
 use Rattle.flow_item.specs.declared.event.Party.{Party}
 use Rattle.flow_item.specs.declared.event.Party.TheVariants.{Node, Worker}
 use Rattle.flow_item.specs.Events.{parties_of, same_party}
-use Rattle.flow_item.specs.Legal.{takes_part, projection}
+use Rattle.flow_item.specs.Legal.{takes_part}
 use Rattle.flow_item.proofs.Tests.{and_left, and_right, both_true}
 use Rattle.flow_shape.specs.declared.Shape.{Shape}
 use Rattle.flow_machine.specs.Machine.{is_legal, is_of_run, is_run}
 use Rattle.flow_machine.specs.Bodies.{Meanings, body_kept, kept_from, bodies_kept}
-use Rattle.flow_crew.specs.Bodies.{KeepsOwn}
-use Rattle.flow_run.proofs.Inside.{inside}
+use Rattle.flow_crew.specs.Bodies.{KeepsOf}
 
-all-there : {X : Type 0} (test : X → Bool) (before later : List X) (x : X) → list_all test (before ++ x ∷ later) ≡ true → test x ≡ true
+pub all-there : {X : Type 0} (test : X → Bool) (before later : List X) (x : X) → list_all test (before ++ x ∷ later) ≡ true → test x ≡ true
 all-there test [] later x h = and_left (test x) (list_all test later) h
 all-there test (b ∷ bs) later x h = all-there test bs later x (and_right (test b) (list_all test (bs ++ x ∷ later)) h)
 
@@ -46,15 +44,16 @@ module _ (m : Meanings) (shape : Shape) where
   by-worker callers workers es e of h = refl
 
   -- where each worker keeps its bodies, all are kept
-  pub bodies-of-workers : (callers workers : ℕ) (es : List Event) → is_run shape callers workers es ≡ true → ((w : ℕ) → w < workers → KeepsOwn m shape (Worker w) es) → bodies_kept m shape es ≡ true
+  pub bodies-of-workers : (callers workers : ℕ) (es : List Event) → is_run shape callers workers es ≡ true → ((w : ℕ) → w < workers → KeepsOf m shape (Worker w) es) → bodies_kept m shape es ≡ true
   bodies-of-workers callers workers es run each =
       let of_run = and_right (is_legal shape es) (list_all (is_of_run shape callers workers) es) run in
       kept-each [] es
       (λ b l e is. by-worker callers workers b e (all-there (is_of_run shape callers workers) b l e (subst (λ (es : List Event). list_all (is_of_run shape callers workers) es ≡ true) is of_run))
       (λ w below takes. each w below b l e is takes))
 
-  -- what the chair keeps of its own events is kept in the whole journal
-  pub own-whole : (p : Party) (xs es : List Event) → IsPrefix xs es → projection parties_of p xs ≡ projection parties_of p es → KeepsOwn m shape p xs → KeepsOwn m shape p es
-  own-whole p xs es begins all keeps before later e is takes =
-      let there = inside p xs es before later e begins all is takes in
-      keeps before there.0 e there.1 takes
+  -- what is kept along a journal is kept along each beginning
+  pub bodies-start : (before xs ys : List Event) → kept_from m shape before (xs ++ ys) ≡ true → kept_from m shape before xs ≡ true
+  bodies-start before [] ys h = refl
+  bodies-start before (x ∷ xs) ys h =
+      both_true (and_left (body_kept m shape before x) (kept_from m shape (before ++ x ∷ []) (xs ++ ys)) h)
+      (bodies-start (before ++ x ∷ []) xs ys (and_right (body_kept m shape before x) (kept_from m shape (before ++ x ∷ []) (xs ++ ys)) h))

@@ -1,2 +1,3 @@
-pub mod Inside
 pub mod BodyLemmas
+pub mod Closed
+pub mod Following

@@ -1,5 +1,5 @@
 -- How far a caller is in its script, as its chair tells.
-use Rattle.std.specs.Prelude.{◌≡◌, ◌⊎◌, ℕ, ◌+◌, ◌<◌, Bool, true, false, ⊥, nat_eq, IfSome, Some, None, List, [], ◌∷◌, ◌++◌, length, drop, slice_get}
+use Rattle.std.specs.Prelude.{◌≡◌, ◌⊎◌, ℕ, ◌<◌, true, false, nat_eq, IfSome, Some, None, List, [], ◌∷◌, ◌++◌, length, drop, slice_get}
 use Rattle.flow_item.specs.declared.event.Event.{Event}
 use Rattle.flow_item.specs.declared.event.Event.TheVariants as E
 use Rattle.flow_item.specs.declared.event.PutAnswer.{PutAnswer}
@@ -28,18 +28,22 @@ HasAllOwn c = c.own ≡ projection parties_of c.party c.seen
 abbrev pub DoesStep : Shape → Step → Sitting Event Run → Sitting Event Run → Type 0
 DoesStep shape (T.Put n port tag val) c d = (answer : PutAnswer) × IsDone c (E.Put (number_of c.party) n port tag val answer) d
 DoesStep shape (T.Act n) c d = IsDone c (E.Act (number_of c.party) n) d
-DoesStep shape T.Wait c d = IsSame c d × HasAllOwn d × (open_after shape d.seen ≡ 0)
+DoesStep shape T.Wait c d = IsSame c d × (open_after shape d.seen ≡ 0)
 DoesStep shape T.Cancel c d = ⊥
 
--- the event is one of the step
+-- the event is one of the caller's step
 abbrev pub IsOfStep : ℕ → Step → Event → Type 0
 IsOfStep number (T.Put n port tag val) e = (answer : PutAnswer) × (e ≡ E.Put number n port tag val answer)
 IsOfStep number (T.Act n) e = e ≡ E.Act number n
 IsOfStep number s e = ⊥
 
--- it made none, and its chair keeps the event where a limit refused it
-abbrev pub StopsWith : (Event → Type 0) → Sitting Event Run → Sitting Event Run → Type 0
-StopsWith Meant c d = IsSame c d ⊎ ((e : Event) × Meant e × IsStopped c e d)
+-- it made no event, and its chair keeps the one that a limit refused
+abbrev pub StopsBy : (Event → Type 0) → Sitting Event Run → Sitting Event Run → Type 0
+StopsBy Meant c d = IsSame c d ⊎ ((e : Event) × Meant e × IsStopped c e d)
+
+-- the caller left, or was refused
+abbrev pub LeavesOr : Sitting Event Run → Sitting Event Run → Type 0
+LeavesOr c d = IsDone c (E.Leave (number_of c.party)) d ⊎ StopsBy (λ e. e ≡ E.Leave (number_of c.party)) c d
 
 -- ---- a script
 
@@ -56,10 +60,19 @@ pub record IsRefusedStep (c : Sitting Event Run) (left : List Sent) (e : Event) 
   pub next : (later : List Sent) × (sent_by e ++ later ≡ left)
   pub plain : is_answer e ≡ false
 
--- the caller did all of its script but what is left, and waited at each wait before its last event
-pub record HasFollowed (shape : Shape) (steps : List Step) (done : Bool) (c : Sitting Event Run) : Type 0 where
+-- the caller did all of its script but what is left, and waited at each wait before its last event; what it was refused is next
+pub record HasFollowed (shape : Shape) (steps : List Step) (c : Sitting Event Run) : Type 0 where
   pub left : List Sent
   pub whole : all_sent c.own ++ left ≡ script shape steps
   pub waited : (j : ℕ) → slice_get steps j ≡ Some T.Wait → length left < length (script shape (drop j steps)) → WaitedAt shape steps c.seen (number_of c.party) j
-  pub none : done ≡ true → left ≡ []
   pub refused : IfSome c.kept (λ kept. IsRefusedStep c left kept.0)
+
+-- the chair's caller followed its script
+abbrev pub FollowsOwn : Shape → List (List Step) → Sitting Event Run → Type 0
+FollowsOwn shape scripts c = (steps : List Step) → slice_get scripts (number_of c.party) ≡ Some steps → HasFollowed shape steps c
+
+-- ---- before and after a run
+
+-- the chair has made no event, and keeps none
+abbrev pub IsNew : Sitting Event Run → Type 0
+IsNew c = (c.own ≡ []) × (c.kept ≡ None)
