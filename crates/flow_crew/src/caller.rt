@@ -147,9 +147,6 @@ impl<B: Naming> Caller<B> {
         ensures worker { (self.new.worker.chair ≡ self.old.worker.chair) × (self.new.worker.busy ≡ self.old.worker.busy) × (self.new.worker.post ≡ self.old.worker.post) }
         ensures ended { IfSome result (λ w. IsWaited graph.now.book.run self.old.chair w self.new.chair) }
     {
-        if !graph.bell.is_called(graph.callers, &mut self.worker.heard) {
-            return None;
-        }
         match graph.book.stopped(rt, &mut self.chair) {
             Some(stop) => Some(Waited::Halted(stop)),
             None => self.quiet(rt, graph),
@@ -172,6 +169,24 @@ impl<B: Naming> Caller<B> {
             return None;
         }
         Some(Waited::Quiet)
+    }
+
+    // Whether the wait has ended, and how. Nobody asks who wasn't called on.
+    fn asks<R: Wait, S: Bodies, G: Gate>(
+        &mut self,
+        rt: &R,
+        graph: &Graph<S, G, B>,
+    ) -> Option<Waited>
+        requires of { IsCaller (S.meanings graph.now.bench.bodies.now) graph.now.book.run graph.now.book.items graph.now.book.events self.old.chair }
+        ensures of { IsCaller (S.meanings graph.now.bench.bodies.now) graph.now.book.run graph.now.book.items graph.now.book.events self.new.chair }
+        ensures same { IsSame self.old.chair self.new.chair }
+        ensures worker { (self.new.worker.chair ≡ self.old.worker.chair) × (self.new.worker.busy ≡ self.old.worker.busy) × (self.new.worker.post ≡ self.old.worker.post) }
+        ensures ended { IfSome result (λ w. IsWaited graph.now.book.run self.old.chair w self.new.chair) }
+    {
+        if !graph.bell.is_called(graph.callers, &mut self.worker.heard) {
+            return None;
+        }
+        self.ended(rt, graph)
     }
 
     // One round of the wait.
@@ -199,7 +214,7 @@ impl<B: Naming> Caller<B> {
                 graph.bell.go();
                 Some(Waited::Halted(graph.refusal(rt, &mut self.chair)))
             }
-            Turn::Idle(last) => match self.ended(rt, graph) {
+            Turn::Idle(last) => match self.asks(rt, graph) {
                 Some(waited) => {
                     graph.bell.quit(true);
                     Some(waited)

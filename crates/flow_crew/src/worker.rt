@@ -256,9 +256,6 @@ impl<B: Naming> Worker<B> {
         ensures busy { self.new.busy ≡ self.old.busy }
         ensures ended { IfSome result (λ w. IsEnded graph.now.book.run self.old.chair w self.new.chair) }
     {
-        if !graph.bell.is_called(graph.callers, &mut self.heard) {
-            return None;
-        }
         match graph.book.stopped(rt, &mut self.chair) {
             Some(stop) => Some(Waited::Halted(stop)),
             None => self.quiet(rt, graph),
@@ -289,6 +286,26 @@ impl<B: Naming> Worker<B> {
         Some(Waited::Quiet)
     }
 
+    // Whether the work has ended, and how. Nobody asks who wasn't called on.
+    fn asks<R: Wait, S: Bodies, G: Gate>(
+        &mut self,
+        rt: &R,
+        graph: &Graph<S, G, B>,
+    ) -> Option<Waited>
+        requires of { IsWorker (S.meanings graph.now.bench.bodies.now) graph.now.book.run graph.now.book.items graph.now.book.events self.old.chair self.old.busy }
+        requires post { IsPostOf graph.now.pool self.old.post }
+        ensures of { IsWorker (S.meanings graph.now.bench.bodies.now) graph.now.book.run graph.now.book.items graph.now.book.events self.new.chair self.new.busy }
+        ensures post { IsPostOf graph.now.pool self.new.post }
+        ensures worked { HasWorked self.old.chair self.new.chair }
+        ensures busy { self.new.busy ≡ self.old.busy }
+        ensures ended { IfSome result (λ w. IsEnded graph.now.book.run self.old.chair w self.new.chair) }
+    {
+        if !graph.bell.is_called(graph.callers, &mut self.heard) {
+            return None;
+        }
+        self.ended(rt, graph)
+    }
+
     // One round of the work.
     fn round<R: Wait, S: Bodies, G: Gate>(
         &mut self,
@@ -311,7 +328,7 @@ impl<B: Naming> Worker<B> {
                 graph.bell.go();
                 Some(Waited::Halted(graph.refusal(rt, &mut self.chair)))
             }
-            Turn::Idle(last) => match self.ended(rt, graph) {
+            Turn::Idle(last) => match self.asks(rt, graph) {
                 Some(waited) => {
                     graph.bell.quit(false);
                     Some(waited)
