@@ -70,7 +70,7 @@ impl<B: Naming> Caller<B> {
                 Ok(answer)
             }
             Err(stop) => {
-                graph.bell.ring_all();
+                graph.bell.call();
                 Err(stop)
             }
         }
@@ -104,7 +104,7 @@ impl<B: Naming> Caller<B> {
                 Ok(())
             }
             Err(stop) => {
-                graph.bell.ring_all();
+                graph.bell.call();
                 Err(stop)
             }
         }
@@ -123,9 +123,16 @@ impl<B: Naming> Caller<B> {
         ensures made { OnOk result (IsDone self.old.chair (E.Leave (number_of self.old.chair.party)) self.new.chair) }
         ensures stopped { IfErr result (λ s. IsHalted self.old.chair (Was (E.Leave (number_of self.old.chair.party))) self.new.chair s) }
     {
-        let left = graph.book.leave(rt, &mut self.chair, graph.gate);
-        graph.bell.ring_all();
-        left
+        match graph.book.leave(rt, &mut self.chair, graph.gate) {
+            Ok(()) => {
+                graph.bell.leave_last(graph.callers);
+                Ok(())
+            }
+            Err(stop) => {
+                graph.bell.call();
+                Err(stop)
+            }
+        }
     }
 
     // Whether the wait has ended, and how.
@@ -161,8 +168,25 @@ impl<B: Naming> Caller<B> {
         if open != 0 {
             return None;
         }
-        self.worker.tell_quiet(graph);
         Some(Waited::Quiet)
+    }
+
+    // Whether the wait has ended, and how. Nobody asks who wasn't called on.
+    fn asks<R: Wait, S: Bodies, G: Gate>(
+        &mut self,
+        rt: &R,
+        graph: &Graph<S, G, B>,
+    ) -> Option<Waited>
+        requires of { IsCaller (S.meanings graph.now.bench.bodies.now) graph.now.book.run graph.now.book.items graph.now.book.events self.old.chair }
+        ensures of { IsCaller (S.meanings graph.now.bench.bodies.now) graph.now.book.run graph.now.book.items graph.now.book.events self.new.chair }
+        ensures same { IsSame self.old.chair self.new.chair }
+        ensures worker { (self.new.worker.chair ≡ self.old.worker.chair) × (self.new.worker.busy ≡ self.old.worker.busy) × (self.new.worker.post ≡ self.old.worker.post) }
+        ensures ended { IfSome result (λ w. IsWaited graph.now.book.run self.old.chair w self.new.chair) }
+    {
+        if !graph.bell.is_called(graph.callers, &mut self.worker.heard) {
+            return None;
+        }
+        self.ended(rt, graph)
     }
 
     // One round of the wait.
@@ -186,14 +210,17 @@ impl<B: Naming> Caller<B> {
     {
         match self.worker.turn(alloc, rt, graph) {
             Turn::Served => None,
-            Turn::Refused => Some(Waited::Halted(graph.refusal(rt, &mut self.chair))),
-            Turn::Idle(last) => match self.ended(rt, graph) {
+            Turn::Refused => {
+                graph.bell.go();
+                Some(Waited::Halted(graph.refusal(rt, &mut self.chair)))
+            }
+            Turn::Idle(last) => match self.asks(rt, graph) {
                 Some(waited) => {
-                    graph.bell.leave();
+                    graph.bell.quit(true);
                     Some(waited)
                 }
                 None => {
-                    graph.bell.sleep(rt, last);
+                    graph.bell.sleep(rt, true, last);
                     None
                 }
             },
@@ -220,6 +247,7 @@ impl<B: Naming> Caller<B> {
         if self.worker.busy {
             return Waited::Halted(graph.refusal(rt, &mut self.chair));
         }
+        self.worker.come(graph);
         for _ in rt.forever() {
             if let Some(waited) = self.round(alloc, rt, graph) {
                 return waited;

@@ -83,10 +83,13 @@ impl<'a, S: Bodies, G: Gate, B: Naming> Graph<'a, S, G, B> {
         ensures { IsPostOf self.now.pool post.new }
     {
         match self.pool.inject(rt, post, node) {
-            Ok(()) => self.bell.ring(),
+            Ok(()) => {
+                self.bell.tell();
+                self.bell.ring();
+            }
             Err(_) => {
                 self.book.halt(rt);
-                self.bell.ring_all();
+                self.bell.call();
             }
         }
     }
@@ -97,7 +100,7 @@ impl<'a, S: Bodies, G: Gate, B: Naming> Graph<'a, S, G, B> {
         ensures shown { Shows c.new result }
         ensures same { IsSame c.old c.new }
     {
-        self.bell.ring_all();
+        self.bell.call();
         for _ in rt.forever() {
             if let Some(stop) = self.book.stopped(rt, c) {
                 return stop;

@@ -52,6 +52,7 @@ fn last_worker<B: Naming>(
     pool: &Pool,
     chairs: &mut Chairs<GraphMachine, B>,
     posts: &mut Vec<Post>,
+    waits: bool,
 ) -> Worker<B>
     requires chairs { chairs.old.items ≢ [] }
     requires some { 0 < length posts.old.items }
@@ -67,7 +68,8 @@ fn last_worker<B: Naming>(
         chair: last_chair(chairs),
         post: last_post(pool, posts),
         busy: false,
-        worked: false,
+        heard: u64::MAX,
+        waits,
     }
 }
 
@@ -95,7 +97,7 @@ fn hire_callers<B: Naming>(
     let mut callers = Vec::new(alloc);
     'hire: while callers.len() < count as usize {
         let chair = last_chair(chairs);
-        let worker = last_worker(pool, workers, posts);
+        let worker = last_worker(pool, workers, posts, true);
         callers.push(Caller { chair, worker })?;
     }
     callers.as_mut_slice().reverse();
@@ -120,7 +122,7 @@ fn hire_workers<B: Naming>(
 {
     let mut workers = Vec::new(alloc);
     'hire: while workers.len() < count as usize {
-        workers.push(last_worker(pool, chairs, posts))?;
+        workers.push(last_worker(pool, chairs, posts, false))?;
     }
     workers.as_mut_slice().reverse();
     Ok(workers)

@@ -21,8 +21,8 @@ pub struct Parts<'a, S: Bodies, G: Gate, B: Naming> {
     pub graph: Graph<'a, S, G, B>,
     pub callers: Vec<Caller<B>>,
     pub workers: Vec<Worker<B>>,
-    // Empty lists with room for all chairs.
-    pub(crate) seats: Seats<B>,
+    /// Empty lists with room for all chairs.
+    pub seats: Seats<B>,
 }
 
 // Puts the chairs of the workers back into their list, the last worker of the list first.

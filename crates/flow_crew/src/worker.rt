@@ -26,8 +26,10 @@ pub struct Worker<B: Naming> {
     pub(crate) post: Post,
     // A body of it couldn't be ended, and runs for ever.
     pub(crate) busy: bool,
-    // It made events since it last told that nothing is open.
-    pub(crate) worked: bool,
+    // After so many calls of the bell it asked what is open.
+    pub(crate) heard: u64,
+    // It is that of a caller, and works while the caller waits.
+    pub(crate) waits: bool,
 }
 
 // What became of one turn of a worker.
@@ -99,10 +101,10 @@ impl<B: Naming> Worker<B> {
         ensures worked { HasWorked self.old.chair self.new.chair }
         ensures idle { is_refused result ≡ false → self.new.busy ≡ false }
     {
-        let last = graph.bell.listen();
+        let last = graph.bell.listen(self.waits);
         match graph.pool.take(rt, &mut self.post) {
             Some(node) => {
-                graph.bell.leave();
+                graph.bell.leave(self.waits);
                 graph.bell.ring();
                 self.serve(alloc, rt, graph, node)
             }
@@ -160,7 +162,7 @@ impl<B: Naming> Worker<B> {
         match did {
             Did::Rest => Turn::Served,
             Did::Event { first, second } => {
-                self.worked = true;
+                graph.bell.tell();
                 turn_of(graph.push_nodes(rt, &mut self.post, first, second))
             }
             Did::Start(job) => self.work(alloc, rt, graph, job),
@@ -186,7 +188,7 @@ impl<B: Naming> Worker<B> {
         ensures idle { is_refused result ≡ false → self.new.busy ≡ false }
     {
         self.busy = true;
-        self.worked = true;
+        graph.bell.tell();
         if !graph.push(rt, &mut self.post, job.node) {
             return Turn::Refused;
         }
@@ -234,14 +236,12 @@ impl<B: Naming> Worker<B> {
         }
     }
 
-    // Tells those who listen that nothing is open, where it is the worker's news.
-    pub(crate) fn tell_quiet<S: Bodies, G: Gate>(&mut self, graph: &Graph<S, G, B>)
+    // Comes to work. It is to ask what is open where it finds no node.
+    pub(crate) fn come<S: Bodies, G: Gate>(&mut self, graph: &Graph<S, G, B>)
         ensures { (self.new.chair ≡ self.old.chair) × (self.new.busy ≡ self.old.busy) × (self.new.post ≡ self.old.post) }
     {
-        if self.worked {
-            self.worked = false;
-            graph.bell.ring_all();
-        }
+        graph.bell.come();
+        self.heard = u64::MAX;
     }
 
     // Whether the work has ended, and how.
@@ -277,17 +277,35 @@ impl<B: Naming> Worker<B> {
         ensures ended { IfSome result (λ w. IsEnded graph.now.book.run self.old.chair w self.new.chair) }
     {
         let left = graph.book.left(rt, &mut self.chair);
+        if left != graph.callers {
+            return None;
+        }
         let open = graph.book.unrest(rt, &mut self.chair);
         let _ = self.chair.len();
         if open != 0 {
             return None;
         }
-        self.tell_quiet(graph);
-        if left == graph.callers {
-            Some(Waited::Quiet)
-        } else {
-            None
+        Some(Waited::Quiet)
+    }
+
+    // Whether the work has ended, and how. Nobody asks who wasn't called on.
+    fn asks<R: Wait, S: Bodies, G: Gate>(
+        &mut self,
+        rt: &R,
+        graph: &Graph<S, G, B>,
+    ) -> Option<Waited>
+        requires of { IsWorker (S.meanings graph.now.bench.bodies.now) graph.now.book.run graph.now.book.items graph.now.book.events self.old.chair self.old.busy }
+        requires post { IsPostOf graph.now.pool self.old.post }
+        ensures of { IsWorker (S.meanings graph.now.bench.bodies.now) graph.now.book.run graph.now.book.items graph.now.book.events self.new.chair self.new.busy }
+        ensures post { IsPostOf graph.now.pool self.new.post }
+        ensures worked { HasWorked self.old.chair self.new.chair }
+        ensures busy { self.new.busy ≡ self.old.busy }
+        ensures ended { IfSome result (λ w. IsEnded graph.now.book.run self.old.chair w self.new.chair) }
+    {
+        if !graph.bell.is_called(graph.callers, &mut self.heard) {
+            return None;
         }
+        self.ended(rt, graph)
     }
 
     // One round of the work.
@@ -308,14 +326,17 @@ impl<B: Naming> Worker<B> {
     {
         match self.turn(alloc, rt, graph) {
             Turn::Served => None,
-            Turn::Refused => Some(Waited::Halted(graph.refusal(rt, &mut self.chair))),
-            Turn::Idle(last) => match self.ended(rt, graph) {
+            Turn::Refused => {
+                graph.bell.go();
+                Some(Waited::Halted(graph.refusal(rt, &mut self.chair)))
+            }
+            Turn::Idle(last) => match self.asks(rt, graph) {
                 Some(waited) => {
-                    graph.bell.leave();
+                    graph.bell.quit(false);
                     Some(waited)
                 }
                 None => {
-                    graph.bell.sleep(rt, last);
+                    graph.bell.sleep(rt, false, last);
                     None
                 }
             },
@@ -339,6 +360,7 @@ impl<B: Naming> Worker<B> {
         if self.busy {
             return Waited::Halted(graph.refusal(rt, &mut self.chair));
         }
+        self.come(graph);
         for _ in rt.forever() {
             if let Some(waited) = self.round(alloc, rt, graph) {
                 return waited;
