@@ -206,11 +206,12 @@ module _ (q : Item → Bool) (i : ℕ) where
 
   none-fit : (xs : List Item) → count_where (is_numbered i) xs ≡ 0 → all_fit xs ≡ true
   none-fit [] h = refl
-  none-fit (x ∷ xs) h = by_number (eqb x.id.no i) refl h
+  none-fit (x ∷ xs) h = by_number (eqb x.id.no i) refl h (none-fit xs)
     where
-      by_number : (b : Bool) → eqb x.id.no i ≡ b → cond b (suc (count_where (is_numbered i) xs)) (count_where (is_numbered i) xs) ≡ 0 → all_fit (x ∷ xs) ≡ true
-      by_number true e c = let never : ⊥ = omega (arith, c) in absurd never
-      by_number false e c = both_true (ap (λ b. not b || q x) e) (none-fit xs c)
+      by_number : (b : Bool) → eqb x.id.no i ≡ b → cond b (suc (count_where (is_numbered i) xs)) (count_where (is_numbered i) xs) ≡ 0 → (count_where (is_numbered i) xs ≡ 0 → all_fit xs ≡ true)
+          → all_fit (x ∷ xs) ≡ true
+      by_number true e c r = let never : ⊥ = omega (arith, c) in absurd never
+      by_number false e c r = both_true (ap (λ b. not b || q x) e) (r c)
 
   one-fits : (x : Item) → q x ≡ true → fits x ≡ true
   one-fits x h = by_number (eqb x.id.no i)

@@ -222,10 +222,12 @@ impl<B: Naming> Worker<B> {
         ensures idle { is_refused result ≡ false → self.new.busy ≡ false }
     {
         let node = job.node;
-        match graph
+        let ended = graph
             .book
-            .finish(alloc, rt, &mut self.chair, job, outs, graph.gate)
-        {
+            .finish(alloc, rt, &mut self.chair, job, outs, graph.gate);
+        let _ = self.chair.len();
+        let _ = self.chair.own_len();
+        match ended {
             Ok(()) => {
                 self.busy = false;
                 turn_of(graph.push(rt, &mut self.post, node))

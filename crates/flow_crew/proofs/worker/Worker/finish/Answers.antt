@@ -1,10 +1,19 @@
-use Rattle.std.proofs.Common.{true, false}
-use Rattle.flow_crew.proofs.Works.{worker-ended, worker-halted, worked-done, worked-kept, halted-kept}
+use Rattle.flow_crew.proofs.Seen.{finished-worker, unfinished-worker}
+use Rattle.flow_crew.proofs.Works.{worked-done, worked-kept, halted-kept}
 use Rattle.flow_crew.proofs.worker.Worker.finish.Goals as goal
 
 pub returns-in-Ok-clause-of : goal.returns-in-Ok-clause-of
 returns-in-Ok-clause-of g c =
-    worker-ended c.args.graph.now.book.run c.args.graph.now.book.items c.args.graph.now.book.events c.args.self.now.chair c.finish.new.w true false _ _ _ c.in-Ok.ensures.ended.0 _ c.requires.of c.in-Ok.ensures.ended.1
+    finished-worker _ c.args.graph.now.book.run c.args.graph.now.book.items c.args.graph.now.book.events c.args.self.now.chair c.finish-ended.new.w c.args.job c.args.outs c.requires.of c.requires.begun c.args.graph.now.built c.requires.answers c.len.ensures.legal
+    c.own_len.ensures.own c.in-Ok.ensures.ended
 
 pub returns-in-Ok-clause-worked : goal.returns-in-Ok-clause-worked
-returns-in-Ok-clause-worked g c = worked-done c.args.self.now.chair c.finish.new.w _ c.in-Ok.ensures.ended.1
+returns-in-Ok-clause-worked g c = worked-done c.args.self.now.chair c.finish-ended.new.w _ c.in-Ok.ensures.ended.1
+
+pub returns-in-Err-clause-of : goal.returns-in-Err-clause-of
+returns-in-Err-clause-of g c =
+    unfinished-worker _ c.args.graph.now.book.run c.args.graph.now.book.items c.args.graph.now.book.events c.args.self.now.chair c.finish-ended.new.w c.args.job c.args.outs _ c.requires.of c.requires.begun c.args.graph.now.built c.requires.answers c.len.ensures.legal
+    c.in-Err.ensures.stopped
+
+pub returns-in-Err-clause-worked : goal.returns-in-Err-clause-worked
+returns-in-Err-clause-worked g c = worked-kept c.args.self.now.chair c.finish-ended.new.w (halted-kept c.args.self.now.chair c.finish-ended.new.w _ _ c.in-Err.ensures.stopped)

@@ -1,10 +1,8 @@
-use Rattle.std.proofs.Common.{◌≡◌, refl, sym, ap, ◌∙◌}
 use Rattle.flow_book.proofs.Serves.{same-on}
-use Rattle.flow_crew.proofs.Seen.{quiet-ended}
 use Rattle.flow_crew.proofs.Works.{worker-same}
 use Rattle.flow_crew.proofs.worker.Worker.quiet.Goals as goal
 
 pub returns-clause-of : goal.returns-clause-of
 returns-clause-of g c =
-    worker-same c.args.graph.now.book.run c.args.graph.now.book.items c.args.graph.now.book.events c.args.self.now.chair c.unrest-open.new.c c.args.self.now.busy c.requires.of
+    worker-same _ c.args.graph.now.book.run c.args.graph.now.book.items c.args.graph.now.book.events c.args.self.now.chair c.unrest-open.new.c c.args.self.now.busy c.requires.of
     (same-on c.args.self.now.chair c.left-left.new.c c.unrest-open.new.c c.left-left.ensures.same c.unrest-open.ensures.same)

@@ -1,13 +1,13 @@
 use Rattle.flow_crew.proofs.Seen.{ended-later}
-use Rattle.flow_crew.proofs.Works.{worker-same, worked-kept, worked-on}
+use Rattle.flow_crew.proofs.Works.{worker-keeps, worker-same, worked-kept, worked-on}
 use Rattle.flow_crew.proofs.worker.Worker.round.Goals as goal
 
 pub refusal-requires : goal.refusal-requires
-refusal-requires g c = c.in-Refused.ensures.of.kept
+refusal-requires g c = worker-keeps _ c.args.graph.now.book.run c.args.graph.now.book.items c.args.graph.now.book.events c.turn.new.self.chair c.turn.new.self.busy c.in-Refused.ensures.of
 
 pub returns-in-Refused-clause-of : goal.returns-in-Refused-clause-of
 returns-in-Refused-clause-of g c =
-    worker-same c.args.graph.now.book.run c.args.graph.now.book.items c.args.graph.now.book.events c.turn.new.self.chair c.refusal.new.c c.turn.new.self.busy c.in-Refused.ensures.of c.refusal.ensures.same
+    worker-same _ c.args.graph.now.book.run c.args.graph.now.book.items c.args.graph.now.book.events c.turn.new.self.chair c.refusal.new.c c.turn.new.self.busy c.in-Refused.ensures.of c.refusal.ensures.same
 
 pub returns-in-Refused-clause-worked : goal.returns-in-Refused-clause-worked
 returns-in-Refused-clause-worked g c =
