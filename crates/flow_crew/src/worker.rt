@@ -222,17 +222,20 @@ impl<B: Naming> Worker<B> {
         ensures idle { is_refused result ≡ false → self.new.busy ≡ false }
     {
         let node = job.node;
-        let ended = graph
+        match graph
             .book
-            .finish(alloc, rt, &mut self.chair, job, outs, graph.gate);
-        let _ = self.chair.len();
-        let _ = self.chair.own_len();
-        match ended {
+            .finish(alloc, rt, &mut self.chair, job, outs, graph.gate)
+        {
             Ok(()) => {
+                let _ = self.chair.len();
+                let _ = self.chair.own_len();
                 self.busy = false;
                 turn_of(graph.push(rt, &mut self.post, node))
             }
-            Err(_) => Turn::Refused,
+            Err(_) => {
+                let _ = self.chair.len();
+                Turn::Refused
+            }
         }
     }
 

@@ -1,7 +1,7 @@
 use Rattle.std.proofs.Common.{◌≡◌, ◌∙◌, sym, ap, Some}
 use Rattle.flow_crew.proofs.Answered.{answers-run}
 use Rattle.flow_crew.proofs.Shelved.{body-there, body-runs}
-use Rattle.flow_crew.proofs.job.Graph.answer.Goals as goal
+use Rattle.flow_crew.proofs.graph.Graph.answer.Goals as goal
 
 pub run-requires-after_bounds : goal.run-requires-after_bounds
 run-requires-after_bounds g c =
