@@ -222,17 +222,20 @@ impl<B: Naming> Worker<B> {
         ensures idle { is_refused result ≡ false → self.new.busy ≡ false }
     {
         let node = job.node;
-        let ended = graph
+        match graph
             .book
-            .finish(alloc, rt, &mut self.chair, job, outs, graph.gate);
-        let _ = self.chair.len();
-        let _ = self.chair.own_len();
-        match ended {
+            .finish(alloc, rt, &mut self.chair, job, outs, graph.gate)
+        {
             Ok(()) => {
+                let _ = self.chair.len();
+                let _ = self.chair.own_len();
                 self.busy = false;
                 turn_of(graph.push(rt, &mut self.post, node))
             }
-            Err(_) => Turn::Refused,
+            Err(_) => {
+                let _ = self.chair.len();
+                Turn::Refused
+            }
         }
     }
 
@@ -244,8 +247,8 @@ impl<B: Naming> Worker<B> {
         self.heard = u64::MAX;
     }
 
-    // Whether the work has ended, and how.
-    fn ended<R: Wait, S: Bodies, G: Gate>(
+    /// Whether the work has ended, and how.
+    pub fn ended<R: Wait, S: Bodies, G: Gate>(
         &mut self,
         rt: &R,
         graph: &Graph<S, G, B>,
