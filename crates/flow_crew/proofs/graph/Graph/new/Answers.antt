@@ -47,16 +47,14 @@ pub returns-clause-callers : goal.returns-clause-callers
 returns-clause-callers g c =
     let there = callers-there c.in_ok-book.book.run c.args.items c.args.events c.in_ok-book.seats.callers.items c.in_ok-book.ensures.callers in
     let count = ap (λ r. r.callers) c.in_ok-book.ensures.run in
-    let long = omega (arith, there, count, c.in_ok-callers.ensures.count) in
-    (all-out (λ c. c.chair) c.in_ok-book.seats.callers.items c.hire_callers.new.chairs.items c.in_ok-callers.callers.items c.in_ok-callers.ensures.chairs long).1 ∙ c.in_ok-book.ensures.callers
+    (all-out (λ c. c.chair) c.in_ok-book.seats.callers.items c.hire_callers.new.chairs.items c.in_ok-callers.callers.items c.in_ok-callers.ensures.chairs (omega (arith, there, count, c.in_ok-callers.ensures.count))).1 ∙ c.in_ok-book.ensures.callers
 
 pub returns-clause-workers : goal.returns-clause-workers
 returns-clause-workers g c =
     let there = workers-there c.in_ok-book.book.run c.args.items c.args.events c.in_ok-book.seats.workers.items c.in_ok-book.ensures.workers in
     let count = ap (λ r. r.workers) c.in_ok-book.ensures.run in
     let left = left-over (λ c. c.worker.chair) c.in_ok-book.seats.workers.items c.hire_callers.new.workers.items c.in_ok-callers.callers.items c.in_ok-callers.ensures.workers in
-    let long = omega (arith, there, count, left, c.in_ok-callers.ensures.count, c.in_ok-workers.ensures.count) in
-    let rest = (all-out (λ w. w.chair) c.hire_callers.new.workers.items c.hire_workers.new.chairs.items c.in_ok-workers.workers.items c.in_ok-workers.ensures.chairs long).1 in
+    let rest = (all-out (λ w. w.chair) c.hire_callers.new.workers.items c.hire_workers.new.chairs.items c.in_ok-workers.workers.items c.in_ok-workers.ensures.chairs (omega (arith, there, count, left, c.in_ok-callers.ensures.count, c.in_ok-workers.ensures.count))).1 in
     ap (λ l. l ++ map (λ c. c.worker.chair) c.in_ok-callers.callers.items) rest ∙ (sym c.in_ok-callers.ensures.workers ∙ c.in_ok-book.ensures.workers)
 
 pub returns-clause-ready : goal.returns-clause-ready
@@ -89,11 +87,8 @@ pub returns-clause-empty : goal.returns-clause-empty
 returns-clause-empty g c =
     let there = callers-there c.in_ok-book.book.run c.args.items c.args.events c.in_ok-book.seats.callers.items c.in_ok-book.ensures.callers in
     let count = ap (λ r. r.callers) c.in_ok-book.ensures.run in
-    let long = omega (arith, there, count, c.in_ok-callers.ensures.count) in
     let workers = workers-there c.in_ok-book.book.run c.args.items c.args.events c.in_ok-book.seats.workers.items c.in_ok-book.ensures.workers in
     let of_run = ap (λ r. r.workers) c.in_ok-book.ensures.run in
     let left = left-over (λ c. c.worker.chair) c.in_ok-book.seats.workers.items c.hire_callers.new.workers.items c.in_ok-callers.callers.items c.in_ok-callers.ensures.workers in
-    let more = omega (arith, workers, of_run, left, c.in_ok-callers.ensures.count, c.in_ok-workers.ensures.count) in (
-      (all-out (λ c. c.chair) c.in_ok-book.seats.callers.items c.hire_callers.new.chairs.items c.in_ok-callers.callers.items c.in_ok-callers.ensures.chairs long).0,
-      (all-out (λ w. w.chair) c.hire_callers.new.workers.items c.hire_workers.new.chairs.items c.in_ok-workers.workers.items c.in_ok-workers.ensures.chairs more).0,
-    )
+    ((all-out (λ c. c.chair) c.in_ok-book.seats.callers.items c.hire_callers.new.chairs.items c.in_ok-callers.callers.items c.in_ok-callers.ensures.chairs (omega (arith, there, count, c.in_ok-callers.ensures.count))).0,
+    (all-out (λ w. w.chair) c.hire_callers.new.workers.items c.hire_workers.new.chairs.items c.in_ok-workers.workers.items c.in_ok-workers.ensures.chairs (omega (arith, workers, of_run, left, c.in_ok-callers.ensures.count, c.in_ok-workers.ensures.count))).0)
