@@ -2,9 +2,9 @@
 ghost use Rattle.std.specs.Prelude.{◌≡◌, ◌<◌, ℕ, true, IfOk};
 ghost use Rattle.flow_machine.specs.Bodies.{Meanings};
 
-use flow_body::Shelf;
 use flow_item::{Item, NoMemory, Outs, Val};
 use std::alloc::Global;
+use std::marker::{Brand, PhantomData};
 
 /// Bodies by their numbers, as those of a shelf. A graph is generic over it: what stands behind locks isn't stated beside
 /// a `dyn`.
@@ -26,26 +26,57 @@ pub trait Bodies: Sync {
             → IfOk result (λ outs. outs ≡ (meanings self.now).out body arg.now item.now.tag item.now.val) };
 }
 
-impl Bodies for Shelf {
-    ghost use Rattle.std.specs.Prelude.{length};
-    ghost use Rattle.flow_body.specs.Shelves.{meanings_of_shelf};
+/// What the bodies of a run mean, as who calls it picks.
+pub trait Means {
+    /// By their numbers.
+    ghost meanings: { Meanings };
+}
 
-    ghost count = { λ s. length s.bodies.items };
+impl Means for Brand {
+    ghost use Rattle.std.specs.Prelude.{false, []};
 
-    ghost meanings = { λ s. meanings_of_shelf (λ n. pure (n.body.vtable, n.body.value)) (λ n. single (n.body.vtable, n.body.value)) (λ n. out (n.body.vtable, n.body.value)) s.bodies.items };
+    ghost meanings = { record { is_pure = λ b. false; is_single = λ b. false; out = λ b arg tag v. []; is_outside_pure = false; outside = λ arg tag v. [] } };
+}
+
+/// So many bodies that one function runs.
+#[derive(Drop)]
+pub struct Ran<'a, F: Fn(Global, u32, &Val, &Item) -> Result<Outs, NoMemory>, M: Means> {
+    run: &'a F,
+    count: u32,
+    of: PhantomData<M>,
+    ghost runs: { (a : _) (b : _) (x : _) (y : _) → b < count → F.pre run.now a b x y },
+    ghost tells: { (a : _) (b : _) (x : _) (y : _) (r : _) → F.post run.now a b x y r → M.meanings.is_pure b ≡ true
+        → IfOk r (λ outs. outs ≡ M.meanings.out b x.now y.now.tag y.now.val) },
+}
+
+impl<'a, F: Fn(Global, u32, &Val, &Item) -> Result<Outs, NoMemory>, M: Means> Ran<'a, F, M> {
+    /// These bodies.
+    pub fn of(run: &'a F, count: u32) -> Ran<'a, F, M>
+        requires runs { (a : _) (b : _) (x : _) (y : _) → b < count → F.pre run.now a b x y }
+        requires tells { (a : _) (b : _) (x : _) (y : _) (r : _) → F.post run.now a b x y r → M.meanings.is_pure b ≡ true
+            → IfOk r (λ outs. outs ≡ M.meanings.out b x.now y.now.tag y.now.val) }
+        ensures { result.count ≡ count }
+    {
+        Ran {
+            run,
+            count,
+            of: PhantomData,
+        }
+    }
+}
+
+impl<'a, F: Fn(Global, u32, &Val, &Item) -> Result<Outs, NoMemory> + Sync, M: Means + Sync> Bodies
+    for Ran<'a, F, M> {
+    ghost count = { λ r. r.count };
+
+    ghost meanings = { λ r. M.meanings };
 
     fn count(&self) -> u32 {
-        self.len() as u32
+        self.count
     }
 
     fn run(&self, alloc: Global, body: u32, arg: &Val, item: &Item) -> Result<Outs, NoMemory> {
-        match self.body(body) {
-            Some(body) => {
-                let outs = body.run(alloc, arg, item)?;
-                Ok(outs)
-            }
-            None => unreachable!(),
-        }
+        (self.run)(alloc, body, arg, item)
     }
 }
 

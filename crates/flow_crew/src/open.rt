@@ -12,7 +12,7 @@ use crate::bell::Bell;
 use crate::bodies::{Bench, Bodies};
 use crate::caller::Caller;
 use crate::graph::Graph;
-use crate::parts::Parts;
+use crate::parts::{Parts, turn};
 use crate::worker::Worker;
 use flow_book::{Book, Gate, GraphMachine};
 use flow_doc::Doc;
@@ -100,7 +100,7 @@ fn hire_callers<B: Naming>(
         let worker = last_worker(pool, workers, posts, true);
         callers.push(Caller { chair, worker })?;
     }
-    callers.as_mut_slice().reverse();
+    turn(&mut callers);
     Ok(callers)
 }
 
@@ -124,7 +124,7 @@ fn hire_workers<B: Naming>(
     'hire: while workers.len() < count as usize {
         workers.push(last_worker(pool, chairs, posts, false))?;
     }
-    workers.as_mut_slice().reverse();
+    turn(&mut workers);
     Ok(workers)
 }
 
@@ -147,6 +147,7 @@ impl<'a, S: Bodies, G: Gate, B: Naming> Graph<'a, S, G, B> {
         requires few { workers + length doc.now.scripts + 1 < 2 ^ 32 }
         requires limits { (items < 2 ^ 62) × (events < 2 ^ 62) }
         ensures run { IfOk result (λ r. r.graph.book.run ≡ record { shape = doc.now.shape; callers = length doc.now.scripts; workers = workers + length doc.now.scripts }) }
+        ensures bodies { IfOk result (λ r. S.meanings r.graph.bench.bodies.now ≡ S.meanings bodies.now) }
         ensures limits { IfOk result (λ r. (r.graph.book.items ≡ items) × (r.graph.book.events ≡ events)) }
         ensures callers { IfOk result (λ r. map (λ c. c.chair) r.callers.items ≡ fresh_chairs r.graph.book.run items events (callers_of r.graph.book.run)) }
         ensures workers { IfOk result (λ r. map (λ w. w.chair) r.workers.items ++ map (λ c. c.worker.chair) r.callers.items ≡ fresh_chairs r.graph.book.run items events (workers_of r.graph.book.run)) }
