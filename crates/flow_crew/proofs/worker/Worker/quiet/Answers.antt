@@ -1,3 +1,4 @@
+use Rattle.std.proofs.Common.{◌∙◌, sym}
 use Rattle.flow_book.proofs.Serves.{same-on}
 use Rattle.flow_crew.proofs.Seen.{quiet-ended}
 use Rattle.flow_crew.proofs.Works.{worker-same}
@@ -11,4 +12,4 @@ returns-clause-of g c =
 pub returns-clause-ended : goal.returns-clause-ended
 returns-clause-ended g c =
     quiet-ended c.args.graph.now.book.run c.args.graph.now.book.items c.args.graph.now.book.events c.args.self.now.chair c.left-left.new.c c.unrest-open.new.c c.left-left.result c.left-left.ensures.same c.unrest-open.ensures.same c.unrest-open.ensures.looks c.requires.of.about
-    c.len.ensures.legal c.left-left.ensures.value (c.if-left-callers.false) (c.if-open-0.false)
+    c.len.ensures.legal c.left-left.ensures.value (c.if-left-graph.false ∙ c.args.graph.now.counted) (sym c.unrest-open.ensures.value ∙ c.if-open-ne0.false)
