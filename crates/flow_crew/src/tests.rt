@@ -11,10 +11,10 @@ ghost use Rattle.flow_book.specs.Callers.{may_call, takes_puts};
 ghost use Rattle.flow_crew.specs.Crew.{IsCaller, IsWorker};
 
 use super::*;
-use flow_body::{Add, Body, Named, Shelf};
+use flow_body::{Add, Body};
 use flow_book::GraphMachine;
 use flow_doc::{Doc, Names, Nodes, Scripts};
-use flow_item::{Items, Text, Val};
+use flow_item::{Item, Items, NoMemory, Outs, Text, Val};
 use flow_line::{Naming, Opened};
 use flow_shape::{Edge, Edges, Kind, Kinds, Shape, Step};
 use std::alloc::Global;
@@ -83,16 +83,22 @@ fn function_into_queue(alloc: Global) -> Result<Doc, Fail>
     })
 }
 
-// A shelf of this body.
-fn shelf_of(alloc: Global, add: Box<dyn Body + Send + Sync>) -> Result<Shelf, Fail>
-    ensures { IfOk result (λ shelf. length shelf.bodies.items ≡ 1) }
-{
-    let mut bodies = Vec::new(alloc);
-    bodies.push(Named {
-        name: name(alloc, "add")?,
-        body: add,
-    })?;
-    Ok(Shelf::new(alloc, bodies).ok().ok_or("no memory")?)
+// One body, which adds.
+impl Bodies for Add {
+    ghost use Rattle.std.specs.Prelude.{true, false, []};
+    ghost use Rattle.flow_body.specs.Builtin.{one, sum_with};
+
+    ghost count = { λ s. 1 };
+
+    ghost meanings = { λ s. record { is_pure = λ b. true; is_single = λ b. true; out = λ b arg tag v. one tag (sum_with arg v); is_outside_pure = false; outside = λ arg tag v. [] } };
+
+    fn count(&self) -> u32 {
+        1
+    }
+
+    fn run(&self, alloc: Global, _body: u32, arg: &Val, item: &Item) -> Result<Outs, NoMemory> {
+        Body::run(self, alloc, arg, item)
+    }
 }
 
 // Puts 5 to the first node.
@@ -236,9 +242,8 @@ fn both_together<B: Naming + Send + Sync, S: Bodies, R: Threads + Wait + Abort +
 fn a_caller_and_a_worker(rt: HostRuntime) -> Result<(), Fail> {
     let alloc = rt.alloc();
     let doc = function_into_queue(alloc)?;
-    let shelf = shelf_of(alloc, Box::new(alloc, Add)?)?;
     let opened = Opened::<GraphMachine>::new(alloc).ok().ok_or("a line")?;
-    let events = both_together::<Brand, _, _>(&rt, alloc, &doc, &shelf, opened);
+    let events = both_together::<Brand, _, _>(&rt, alloc, &doc, &Add, opened);
     assert!(rt; events >= 7);
     Ok(())
 }

@@ -89,6 +89,7 @@ returns-clause-empty g c =
     let count = ap (λ r. r.callers) c.in_ok-book.ensures.run in
     let workers = workers-there c.in_ok-book.book.run c.args.items c.args.events c.in_ok-book.seats.workers.items c.in_ok-book.ensures.workers in
     let of_run = ap (λ r. r.workers) c.in_ok-book.ensures.run in
-    let left = left-over (λ c. c.worker.chair) c.in_ok-book.seats.workers.items c.hire_callers.new.workers.items c.in_ok-callers.callers.items c.in_ok-callers.ensures.workers in
-    ((all-out (λ c. c.chair) c.in_ok-book.seats.callers.items c.hire_callers.new.chairs.items c.in_ok-callers.callers.items c.in_ok-callers.ensures.chairs (omega (arith, there, count, c.in_ok-callers.ensures.count))).0,
-    (all-out (λ w. w.chair) c.hire_callers.new.workers.items c.hire_workers.new.chairs.items c.in_ok-workers.workers.items c.in_ok-workers.ensures.chairs (omega (arith, workers, of_run, left, c.in_ok-callers.ensures.count, c.in_ok-workers.ensures.count))).0)
+    let left = left-over (λ c. c.worker.chair) c.in_ok-book.seats.workers.items c.hire_callers.new.workers.items c.in_ok-callers.callers.items c.in_ok-callers.ensures.workers in (
+      (all-out (λ c. c.chair) c.in_ok-book.seats.callers.items c.hire_callers.new.chairs.items c.in_ok-callers.callers.items c.in_ok-callers.ensures.chairs (omega (arith, there, count, c.in_ok-callers.ensures.count))).0,
+      (all-out (λ w. w.chair) c.hire_callers.new.workers.items c.hire_workers.new.chairs.items c.in_ok-workers.workers.items c.in_ok-workers.ensures.chairs (omega (arith, workers, of_run, left, c.in_ok-callers.ensures.count, c.in_ok-workers.ensures.count))).0,
+    )
