@@ -2,9 +2,9 @@
 ghost use Rattle.std.specs.Prelude.{◌≡◌, ◌<◌, ℕ, true, IfOk};
 ghost use Rattle.flow_machine.specs.Bodies.{Meanings};
 
+use flow_body::{Add, Body, CountTo, Echo, FailMemory, Len, Mul, Neg, Pair, Part, SplitEven};
 use flow_item::{Item, NoMemory, Outs, Val};
 use std::alloc::Global;
-use std::marker::{Brand, PhantomData};
 
 /// Bodies by their numbers, as those of a shelf. A graph is generic over it: what stands behind locks isn't stated beside
 /// a `dyn`.
@@ -26,57 +26,34 @@ pub trait Bodies: Sync {
             → IfOk result (λ outs. outs ≡ (meanings self.now).out body arg.now item.now.tag item.now.val) };
 }
 
-/// What the bodies of a run mean, as who calls it picks.
-pub trait Means {
-    /// By their numbers.
-    ghost meanings: { Meanings };
-}
+/// The built-in bodies, by their numbers on their shelf.
+#[derive(Clone, Copy, Debug)]
+pub struct Builtin;
 
-impl Means for Brand {
-    ghost use Rattle.std.specs.Prelude.{false, []};
+impl Bodies for Builtin {
+    ghost use Rattle.flow_body.specs.Builtin.{meanings_of, builtin_bodies};
 
-    ghost meanings = { record { is_pure = λ b. false; is_single = λ b. false; out = λ b arg tag v. []; is_outside_pure = false; outside = λ arg tag v. [] } };
-}
+    ghost count = { λ b. 10 };
 
-/// So many bodies that one function runs.
-#[derive(Drop)]
-pub struct Ran<'a, F: Fn(Global, u32, &Val, &Item) -> Result<Outs, NoMemory>, M: Means> {
-    run: &'a F,
-    count: u32,
-    of: PhantomData<M>,
-    ghost runs: { (a : _) (b : _) (x : _) (y : _) → b < count → F.pre run.now a b x y },
-    ghost tells: { (a : _) (b : _) (x : _) (y : _) (r : _) → F.post run.now a b x y r → M.meanings.is_pure b ≡ true
-        → IfOk r (λ outs. outs ≡ M.meanings.out b x.now y.now.tag y.now.val) },
-}
-
-impl<'a, F: Fn(Global, u32, &Val, &Item) -> Result<Outs, NoMemory>, M: Means> Ran<'a, F, M> {
-    /// These bodies.
-    pub fn of(run: &'a F, count: u32) -> Ran<'a, F, M>
-        requires runs { (a : _) (b : _) (x : _) (y : _) → b < count → F.pre run.now a b x y }
-        requires tells { (a : _) (b : _) (x : _) (y : _) (r : _) → F.post run.now a b x y r → M.meanings.is_pure b ≡ true
-            → IfOk r (λ outs. outs ≡ M.meanings.out b x.now y.now.tag y.now.val) }
-        ensures { result.count ≡ count }
-    {
-        Ran {
-            run,
-            count,
-            of: PhantomData,
-        }
-    }
-}
-
-impl<'a, F: Fn(Global, u32, &Val, &Item) -> Result<Outs, NoMemory> + Sync, M: Means + Sync> Bodies
-    for Ran<'a, F, M> {
-    ghost count = { λ r. r.count };
-
-    ghost meanings = { λ r. M.meanings };
+    ghost meanings = { λ b. meanings_of builtin_bodies };
 
     fn count(&self) -> u32 {
-        self.count
+        10
     }
 
     fn run(&self, alloc: Global, body: u32, arg: &Val, item: &Item) -> Result<Outs, NoMemory> {
-        (self.run)(alloc, body, arg, item)
+        match body {
+            0 => Add.run(alloc, arg, item),
+            1 => Mul.run(alloc, arg, item),
+            2 => Neg.run(alloc, arg, item),
+            3 => Len.run(alloc, arg, item),
+            4 => Part.run(alloc, arg, item),
+            5 => Pair.run(alloc, arg, item),
+            6 => Echo.run(alloc, arg, item),
+            7 => SplitEven.run(alloc, arg, item),
+            8 => CountTo.run(alloc, arg, item),
+            _ => FailMemory.run(alloc, arg, item),
+        }
     }
 }
 
