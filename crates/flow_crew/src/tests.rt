@@ -11,10 +11,9 @@ ghost use Rattle.flow_book.specs.Callers.{may_call, takes_puts};
 ghost use Rattle.flow_crew.specs.Crew.{IsCaller, IsWorker};
 
 use super::*;
-use flow_body::{Add, Body};
 use flow_book::GraphMachine;
 use flow_doc::{Doc, Names, Nodes, Scripts};
-use flow_item::{Item, Items, NoMemory, Outs, Text, Val};
+use flow_item::{Items, Text, Val};
 use flow_line::{Naming, Opened};
 use flow_shape::{Edge, Edges, Kind, Kinds, Shape, Step};
 use std::alloc::Global;
@@ -47,7 +46,7 @@ fn scripts(alloc: Global) -> Result<Scripts, Fail>
 
 // A function that adds 1, before a queue.
 fn function_into_queue(alloc: Global) -> Result<Doc, Fail>
-    ensures fits { IfOk result (λ doc. doc_fits 1 doc ≡ true) }
+    ensures fits { IfOk result (λ doc. doc_fits 10 doc ≡ true) }
     ensures built { IfOk result (λ doc. list_all is_built doc.shape.nodes ≡ true) }
     ensures port { IfOk result (λ doc. takes_puts doc.shape 0 0 ≡ true) }
     ensures callers { IfOk result (λ doc. length doc.scripts ≡ 1) }
@@ -81,24 +80,6 @@ fn function_into_queue(alloc: Global) -> Result<Doc, Fail>
         scripts,
         sinks: Nodes::new(alloc),
     })
-}
-
-// One body, which adds.
-impl Bodies for Add {
-    ghost use Rattle.std.specs.Prelude.{true, false, []};
-    ghost use Rattle.flow_body.specs.Builtin.{one, sum_with};
-
-    ghost count = { λ s. 1 };
-
-    ghost meanings = { λ s. record { is_pure = λ b. true; is_single = λ b. true; out = λ b arg tag v. one tag (sum_with arg v); is_outside_pure = false; outside = λ arg tag v. [] } };
-
-    fn count(&self) -> u32 {
-        1
-    }
-
-    fn run(&self, alloc: Global, _body: u32, arg: &Val, item: &Item) -> Result<Outs, NoMemory> {
-        Body::run(self, alloc, arg, item)
-    }
 }
 
 // Puts 5 to the first node.
@@ -243,7 +224,7 @@ fn a_caller_and_a_worker(rt: HostRuntime) -> Result<(), Fail> {
     let alloc = rt.alloc();
     let doc = function_into_queue(alloc)?;
     let opened = Opened::<GraphMachine>::new(alloc).ok().ok_or("a line")?;
-    let events = both_together::<Brand, _, _>(&rt, alloc, &doc, &Add, opened);
+    let events = both_together::<Brand, _, _>(&rt, alloc, &doc, &Builtin, opened);
     assert!(rt; events >= 7);
     Ok(())
 }

@@ -2,8 +2,8 @@ use Rattle.flow_crew.proofs.Seen.{ended-later}
 use Rattle.flow_crew.proofs.Works.{worker-keeps, worker-same, worked-kept, worked-on}
 use Rattle.flow_crew.proofs.worker.Worker.round.Goals as goal
 
-pub refusal-requires : goal.refusal-requires
-refusal-requires g c = λ κs. worker-keeps _ c.args.graph.now.book.run c.args.graph.now.book.items c.args.graph.now.book.events c.turn.new.self.chair c.turn.new.self.busy c.in-Refused.ensures.of
+pub refusal-requires-clause-kept : goal.refusal-requires-clause-kept
+refusal-requires-clause-kept g c = λ κs lives. worker-keeps _ c.args.graph.now.book.run c.args.graph.now.book.items c.args.graph.now.book.events c.turn.new.self.chair c.turn.new.self.busy c.in-Refused.ensures.of
 
 pub returns-in-Refused-clause-of : goal.returns-in-Refused-clause-of
 returns-in-Refused-clause-of g c =
