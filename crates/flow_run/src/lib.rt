@@ -1,0 +1,6 @@
+//! Runs of a document on threads: each caller follows its script, and workers serve the nodes, until nothing is open.
+#![tactic(auto)]
+
+mod run;
+
+pub use run::run_all;
