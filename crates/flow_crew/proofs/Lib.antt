@@ -1,3 +1,4 @@
+pub mod Answered
 pub mod Fitted
 pub mod Keeps
 pub mod Lists

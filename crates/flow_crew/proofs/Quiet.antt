@@ -69,7 +69,7 @@ second-takes p q true h = refl
 second-takes p q false h = h
 
 module _ (shape : Shape) (callers workers : ℕ) (es : List Event) where
-  stays : is_run shape callers workers es ≡ true → count_by is_leave es ≡ callers → (c : ℕ) → c < callers → has_left es c ≡ false → ⊥
+  pub stays : is_run shape callers workers es ≡ true → count_by is_leave es ≡ callers → (c : ℕ) → c < callers → has_left es c ≡ false → ⊥
   stays run all c within h =
       let legal = and_left (is_legal shape es) (list_all (is_of_run shape callers workers) es) run in
       let own = and_right (is_legal shape es) (list_all (is_of_run shape callers workers) es) run in

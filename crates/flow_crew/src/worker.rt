@@ -244,8 +244,8 @@ impl<B: Naming> Worker<B> {
         self.heard = u64::MAX;
     }
 
-    // Whether the work has ended, and how.
-    fn ended<R: Wait, S: Bodies, G: Gate>(
+    /// Whether the work has ended, and how.
+    pub fn ended<R: Wait, S: Bodies, G: Gate>(
         &mut self,
         rt: &R,
         graph: &Graph<S, G, B>,
