@@ -2,7 +2,7 @@
 use Rattle.std.proofs.Common.{◌≡◌, ℕ, zero, suc, ◌+◌, ◌<◌, ◌≤◌, ◌^◌, Bool, true, false, cond, not, ◌&&◌, ◌||◌, ltb, eqb, Option, Some, None, List, map, [], ◌∷◌, ◌++◌, length, drop, All, refl, sym, ap, ◌∙◌, subst, arith, append_assoc, append-nil}
 use Rattle.std.proofs.lemmas.Bool.{ltb-true, eqb-true}
 use Rattle.std.proofs.lemmas.List.{map-append, length-append}
-use Rattle.std.proofs.lemmas.List.Elements.{All-head, All-tail}
+use Rattle.std.proofs.lemmas.List.Elements.{All-nil, All-cons, All-head, All-tail, All-append}
 use Rattle.std.proofs.lemmas.List.Folds.{list_all-append}
 use Rattle.std.proofs.lemmas.Option.{same_Some, slice_get-map, slice_get-get_or, slice_get_within}
 use Rattle.std.proofs.Math.ListN.{get_or-append}
@@ -36,16 +36,21 @@ use Rattle.flow_line.specs.Kept.{kept_event, or_else, first_kept}
 use Rattle.flow_line.proofs.Beginnings.{prefix_trans}
 use Rattle.flow_book.specs.declared.machine.Run.{Run}
 use Rattle.flow_book.specs.Answers.{about_of, passes}
-use Rattle.flow_book.specs.Callers.{number_of}
-use Rattle.flow_book.specs.Opening.{numbers_below}
+use Rattle.flow_book.specs.Callers.{number_of, is_caller_of}
+use Rattle.flow_book.specs.Opening.{numbers_below, callers_of, workers_of}
 use Rattle.flow_work.specs.Promises.{FollowsScripts, CompletesScripts, HeedsWaits, KeepsBodies, WaitedAt}
 use Rattle.flow_work.proofs.CursorLemmas.{sent_of-snoc}
 use Rattle.flow_work.proofs.RunLemmas.{plain-kept, bodies-snoc}
-use Rattle.flow_crew.specs.Crew.{KeptSuch, KeepsSuch, IsWork}
+use Rattle.flow_crew.specs.Bodies.{KeepsOf}
+use Rattle.flow_crew.specs.Crew.{KeptSuch, KeepsSuch, IsWork, IsCaller, IsWorker}
+use Rattle.flow_crew.proofs.Owned.{kept-part}
 use Rattle.flow_crew.proofs.Quiet.{nothing-follows, stays}
+use Rattle.flow_crew.proofs.Ready.{all-both, all-parts}
+use Rattle.flow_item.proofs.Places.{slice_get-below}
 use Rattle.flow_run.specs.Following.{IsRefusedStep, HasFollowed, FollowsOwn}
 use Rattle.flow_run.specs.Refusals.{IsRefusedWithin}
-use Rattle.flow_run.proofs.BodyLemmas.{all-there, bodies-start}
+use Rattle.flow_run.specs.Runs.{IsRunOf, SawTheEnd}
+use Rattle.flow_run.proofs.BodyLemmas.{all-there, bodies-start, bodies-of-workers}
 use Rattle.flow_run.proofs.Following.{all_sent-append, not-less, waited-longer}
 
 -- ---- chairs by number
@@ -281,3 +286,119 @@ module _ (m : Meanings) (shape : Shape) (scripts : List (List Step)) (workers it
             refused = record { passes = passes-there c h.0 e part h.3; follows = work-follows h.0 e begins h.4.1 follows };
             bodies = bodies-snoc m shape h.0 e (bodies-before h.0 begins kept) h.4.0;
           }
+
+-- ---- the whole run
+
+all-imply : {X : Type 0} (P Q : X → Type 0) → ((x : X) → P x → Q x) → (xs : List X) → All P xs → All Q xs
+all-imply P Q f [] h = All-nil Q
+all-imply P Q f (x ∷ xs) h = All-cons Q x xs (f x (All-head P x xs h)) (all-imply P Q f xs (All-tail P x xs h))
+
+caller-party : (n : ℕ) (p : Party) → is_caller_of n p ≡ true → (p ≡ Caller (number_of p)) × (number_of p < n)
+caller-party n (Caller c) h = (refl, ltb-true c n h)
+caller-party n (Node m) h = cc
+caller-party n (Worker w) h = cc
+
+-- what is known of a closed run
+pub record IsClosed (m : Meanings) (run : Run) (scripts : List (List Step)) (items events : ℕ) (es : List Event) (refused : Option Event) (done : Bool) (callers helpers : List (Sitting Event Run)) : Type 0 where
+  pub valid : IsValid run.shape
+  pub scripted : run.callers ≡ length scripts
+  pub legal : is_run run.shape run.callers run.workers es ≡ true
+  pub caller_parts : All (IsPart parties_of (about_of run items events) es) callers
+  pub helper_parts : All (IsPart parties_of (about_of run items events) es) helpers
+  pub within : IsWithinLimits items events es
+  pub refused_is : refused ≡ first_kept (callers ++ helpers)
+  pub caller_numbers : map (λ c. c.party) callers ≡ callers_of run
+  pub helper_numbers : map (λ c. c.party) helpers ≡ workers_of run
+  pub followed : All (λ c. IsCaller m run items events c × FollowsOwn run.shape scripts c) callers
+  pub worked : All (λ c. (busy : Bool) × IsWorker m run items events c busy) helpers
+  pub end : done ≡ true → SawTheEnd run helpers
+
+module _ (m : Meanings) (shape : Shape) (scripts : List (List Step)) (workers items events : ℕ) (es : List Event) (refused : Option Event) (done : Bool) (callers helpers : List (Sitting Event Run)) where
+  abbrev run : Run
+  run = run_of m shape scripts workers items events es
+
+  abbrev Closed : Type 0
+  Closed = IsClosed m run scripts items events es refused done callers helpers
+
+  caller-at : Closed → (n : ℕ) → n < length scripts → (c : Sitting Event Run) × (IsPart parties_of (about_of run items events) es c × (IsCaller m run items events c × FollowsOwn shape scripts c)) × (c.party ≡ Caller n)
+  caller-at h n below =
+      by-number Caller (λ c. IsPart parties_of (about_of run items events) es c × (IsCaller m run items events c × FollowsOwn shape scripts c)) (length scripts) callers h.caller_numbers
+      (all-both (IsPart parties_of (about_of run items events) es) (λ c. IsCaller m run items events c × FollowsOwn shape scripts c) callers h.caller_parts h.followed) n below
+
+  -- the script of the caller with this number
+  script-of : (c : Sitting Event Run) (n : ℕ) (steps : List Step) → c.party ≡ Caller n → slice_get scripts n ≡ Some steps → FollowsOwn shape scripts c → HasFollowed shape steps c
+  script-of c n steps party at follows = follows steps (ap (λ (p : Party). slice_get scripts (number_of p)) party ∙ at)
+
+  all-follow : Closed → FollowsScripts shape scripts es
+  all-follow h n steps at =
+      let x = caller-at h n (slice_get_within scripts n steps at) in
+      follows-one shape steps run items events es x.0 n (script-of x.0 n steps x.2 at x.1.1.1) x.1.0 x.2
+
+  all-heed : Closed → HeedsWaits shape scripts es
+  all-heed h n steps k at wait more =
+      let x = caller-at h n (slice_get_within scripts n steps at) in
+      heeds-one shape steps run items events es x.0 n (script-of x.0 n steps x.2 at x.1.1.1) x.1.0 x.2 k wait more
+
+  all-bodies : Closed → KeepsBodies m shape es
+  all-bodies h = bodies-of-workers m shape (length scripts) workers es h.legal each
+    where
+      each : (w : ℕ) → w < workers → KeepsOf m shape (Worker w) es
+      each w below =
+          let x = by-number Worker (λ c. IsPart parties_of (about_of run items events) es c × ((busy : Bool) × IsWorker m run items events c busy)) workers helpers h.helper_numbers
+          (all-both (IsPart parties_of (about_of run items events) es) (λ c. (busy : Bool) × IsWorker m run items events c busy) helpers h.helper_parts h.worked) w below in
+          subst (λ (p : Party). KeepsOf m shape p es) x.2 (kept-part m shape (about_of run items events) es x.0 x.1.0 x.1.1.1.bodies)
+
+  abbrev Refused : Event → Type 0
+  Refused e = IsRefusedWithin m shape scripts workers items events es e
+
+  callers-kept : Closed → All (λ c. IfSome c.kept (λ kept. Refused kept.0)) callers
+  callers-kept h =
+      all-imply (λ c. IsPart parties_of (about_of run items events) es c × (IsCaller m run items events c × FollowsOwn shape scripts c)) (λ c. IfSome c.kept (λ kept. Refused kept.0)) one callers
+      (all-both (IsPart parties_of (about_of run items events) es) (λ c. IsCaller m run items events c × FollowsOwn shape scripts c) callers h.caller_parts h.followed)
+    where
+      one : (c : Sitting Event Run) → IsPart parties_of (about_of run items events) es c × (IsCaller m run items events c × FollowsOwn shape scripts c) → IfSome c.kept (λ kept. Refused kept.0)
+      one c x =
+          let p = caller-party (length scripts) c.party x.1.0.caller in
+          let s = slice_get-below scripts (number_of c.party) p.1 in
+          let f = x.1.1 s.0 s.1 in
+          by_kept (all-follow h) (all-bodies h) s.0 s.1 p.0 f c.kept f.refused
+        where
+          by_kept : FollowsScripts shape scripts es → KeepsBodies m shape es → (steps : List Step) → slice_get scripts (number_of c.party) ≡ Some steps → c.party ≡ Caller (number_of c.party) → (f : HasFollowed shape steps c)
+              → (o : Option (Event × ℕ)) → IfSome o (λ kept. IsRefusedStep c f.left kept.0) → IfSome o (λ kept. Refused kept.0)
+          by_kept follows bodies steps at party f None r = _
+          by_kept follows bodies steps at party f (Some kept) r = caller-refused m shape scripts workers items events es c (number_of c.party) steps kept.0 at party x.0 follows bodies f r
+
+  helpers-kept : Closed → All (λ c. IfSome c.kept (λ kept. Refused kept.0)) helpers
+  helpers-kept h =
+      all-imply (λ c. IsPart parties_of (about_of run items events) es c × ((busy : Bool) × IsWorker m run items events c busy)) (λ c. IfSome c.kept (λ kept. Refused kept.0))
+      (λ c x. worker-refused m shape scripts workers items events es c x.0 (all-follow h) (all-bodies h) x.1.1.kept) helpers
+      (all-both (IsPart parties_of (about_of run items events) es) (λ c. (busy : Bool) × IsWorker m run items events c busy) helpers h.helper_parts h.worked)
+
+  -- the chair that saw the end saw the whole journal
+  whole-seen : Closed → (s : SawTheEnd run helpers) → s.chair.seen ≡ es
+  whole-seen h s =
+      let part : IsPart parties_of (about_of run items events) es s.chair = all-at (IsPart parties_of (about_of run items events) es) (s.chair ∷ s.after) 0 s.chair
+      (all-parts (IsPart parties_of (about_of run items events) es) s.before (s.chair ∷ s.after) (subst (λ (cs : List (Sitting Event Run)). All (IsPart parties_of (about_of run items events) es) cs) s.is h.helper_parts)).1 refl in
+      saw-all shape (length scripts) workers s.chair.seen es h.valid part.seen h.legal s.left s.closed
+
+  run-known : Closed → IsRunOf m shape scripts workers items events es refused done
+  run-known h = record {
+    run = h.legal;
+    follows = all-follow h;
+    waits = all-heed h;
+    bodies = all-bodies h;
+    within = h.within;
+    event = subst (λ (o : Option Event). IfSome o Refused) (sym h.refused_is)
+        (first-such Refused (callers ++ helpers) (All-append (λ c. IfSome c.kept (λ kept. Refused kept.0)) callers helpers (callers-kept h) (helpers-kept h)));
+    whole = λ is. let s = h.end is in
+        completes shape scripts workers es h.legal (ap (count_by is_leave) (sym (whole-seen h s)) ∙ s.left) (all-follow h);
+    closed = λ is. let s = h.end is in ap (open_after shape) (sym (whole-seen h s)) ∙ s.closed;
+  }
+
+-- a closed run is one of its document
+pub run-closed : (m : Meanings) (run : Run) (scripts : List (List Step)) (items events : ℕ) (es : List Event) (refused : Option Event) (done : Bool) (callers helpers : List (Sitting Event Run))
+    → IsClosed m run scripts items events es refused done callers helpers → IsRunOf m run.shape scripts run.workers items events es refused done
+run-closed m run scripts items events es refused done callers helpers h =
+    let same : run ≡ run_of m run.shape scripts run.workers items events es = (λ i. record { shape = run.shape; callers = h.scripted i; workers = run.workers }) in
+    run-known m run.shape scripts run.workers items events es refused done callers helpers
+    (subst (λ (r : Run). IsClosed m r scripts items events es refused done callers helpers) same h)

@@ -27,11 +27,16 @@ use Rattle.flow_book.specs.declared.machine.Run.{Run}
 use Rattle.flow_book.specs.Answers.{kept_first, IsDone, IsHalted, IsKept, IsSame, IsStopped}
 use Rattle.flow_book.specs.Callers.{number_of}
 use Rattle.flow_work.specs.Promises.{WaitedAt}
+use Rattle.flow_work.specs.Runs.{is_good_step}
+use Rattle.flow_shape.proofs.Sorting.{all-at}
+use Rattle.flow_machine.specs.Bodies.{Meanings}
+use Rattle.flow_crew.specs.Crew.{IsWorker}
+use Rattle.std.specs.List.{list_all}
 use Rattle.flow_run.specs.Following.{HasAllOwn, DoesStep, IsOfStep, StopsBy, LeavesOr, IsAt, IsRefusedStep, HasFollowed}
 
 -- ---- scripts
 
-drop-at : {X : Type 0} (xs : List X) (n : ℕ) (x : X) → slice_get xs n ≡ Some x → drop n xs ≡ x ∷ drop (suc n) xs
+pub drop-at : {X : Type 0} (xs : List X) (n : ℕ) (x : X) → slice_get xs n ≡ Some x → drop n xs ≡ x ∷ drop (suc n) xs
 drop-at [] n x h = cc
 drop-at (y ∷ xs) zero x h = let same : y ≡ x = cc in ap (λ z. z ∷ xs) same
 drop-at (y ∷ xs) (suc n) x h = drop-at xs n x h
@@ -239,3 +244,12 @@ module _ (shape : Shape) (steps : List Step) where
 pub halted-stops : (Meant : Event → Type 0) (c d : Sitting Event Run) (stop : Stop) → IsHalted c Meant d stop → StopsBy Meant c d
 halted-stops Meant c d Limit h = inr h
 halted-stops Meant c d Memory h = inl h
+
+-- a worker that stayed as it was
+pub same-worker : (m : Meanings) (run : Run) (items events : ℕ) (c d : Sitting Event Run) (b b' : Bool) → (d ≡ c) × (b' ≡ b) → IsWorker m run items events c b → IsWorker m run items events d b'
+same-worker m run items events c d b b' same w =
+    subst (λ (x : Bool). IsWorker m run items events d x) (sym same.1) (subst (λ (x : Sitting Event Run). IsWorker m run items events x b) (sym same.0) w)
+
+-- a step that a good script has
+pub good-at : (shape : Shape) (steps : List Step) (k : ℕ) (s : Step) → list_all (is_good_step shape) steps ≡ true → slice_get steps k ≡ Some s → is_good_step shape s ≡ true
+good-at shape steps k s good at = all-at (is_good_step shape) steps k s good at

@@ -1,3 +1,4 @@
+pub mod Born
 pub mod BodyLemmas
 pub mod Closed
 pub mod Following
