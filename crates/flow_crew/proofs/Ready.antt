@@ -1,5 +1,5 @@
 -- Callers and workers at the start of a graph.
-use Rattle.std.proofs.Common.{◌≡◌, ℕ, zero, suc, ◌+◌, ◌<◌, ◌≤◌, Bool, true, false, ◌&&◌, ltb, Some, None, List, [], ◌∷◌, ◌++◌, map, length, All, refl, sym, ap, ◌∙◌, subst, arith}
+use Rattle.std.proofs.Common.{◌≡◌, ℕ, zero, suc, ◌+◌, ◌<◌, ◌≤◌, Bool, true, false, ◌&&◌, ltb, Some, None, List, [], ◌∷◌, ◌++◌, map, length, All, refl, sym, ap, ◌∙◌, subst, arith, length-append}
 use Rattle.std.proofs.lemmas.Bool.{lt-ltb}
 use Rattle.std.proofs.lemmas.List.{map-append}
 use Rattle.std.proofs.lemmas.List.Elements.{All-nil, All-cons, All-head, All-tail, All-append}
@@ -41,6 +41,21 @@ ready-each {X} P f g m h (suc n) le =
     let below : n < m = omega (arith, le) in
     subst (λ (xs : List X). All P xs) (sym last)
     (All-append P (map g (map f (numbers_below n))) (g (f n) ∷ []) (ready-each P f g m h n (omega (arith, le))) (All-cons P (g (f n)) [] (h n below) (All-nil P)))
+
+length-each : {X : Type 0} (f : ℕ → Party) (g : Party → X) (n : ℕ) → length (map g (map f (numbers_below n))) ≡ n
+length-each f g zero = refl
+length-each f g (suc n) =
+    let last : map g (map f (numbers_below n ++ n ∷ [])) ≡ map g (map f (numbers_below n)) ++ g (f n) ∷ [] =
+    ap (map g) (map-append f (numbers_below n) (n ∷ [])) ∙ map-append g (map f (numbers_below n)) (f n ∷ []) in
+    let long = ap length last ∙ length-append (map g (map f (numbers_below n))) (g (f n) ∷ []) in
+    let rest = length-each f g n in
+    omega (arith, long, rest)
+
+pub callers-there : (run : Run) (items events : ℕ) (cs : List (Sitting Event Run)) → cs ≡ fresh_chairs run items events (callers_of run) → length cs ≡ run.callers
+callers-there run items events cs h = ap length h ∙ length-each Caller (fresh (about_of run items events)) run.callers
+
+pub workers-there : (run : Run) (items events : ℕ) (cs : List (Sitting Event Run)) → cs ≡ fresh_chairs run items events (workers_of run) → length cs ≡ run.workers
+workers-there run items events cs h = ap length h ∙ length-each Worker (fresh (about_of run items events)) run.workers
 
 -- who made nothing has ended no body
 none-ended : (m : Meanings) (shape : Shape) (c : Sitting Event Run) → c.own ≡ [] → KeepsOwn m shape c

@@ -1,10 +1,11 @@
 -- What follows from what a chair of the run has seen.
-use Rattle.std.proofs.Common.{◌≡◌, ℕ, zero, suc, ◌+◌, ◌<◌, ◌≤◌, Bool, true, false, cond, ◌&&◌, ◌⊎◌, Option, Some, None, List, [], ◌∷◌, ◌++◌, length, min, refl, sym, ap, ◌∙◌, subst, arith, inl, inr, ltb}
+use Rattle.std.proofs.Common.{◌≡◌, ℕ, zero, suc, ◌+◌, ◌<◌, ◌≤◌, Bool, true, false, cond, not, ◌&&◌, ◌⊎◌, Option, Some, None, List, [], ◌∷◌, ◌++◌, length, min, refl, sym, ap, ◌∙◌, subst, arith, inl, inr, ltb}
 use Rattle.std.proofs.lemmas.Bool.{ltb-true}
 use Rattle.std.proofs.lemmas.List.Folds.{list_all-append}
 use Rattle.std.proofs.lemmas.List.Sums.{sum_by-append}
 use Rattle.std.proofs.lemmas.Option.{slice_get_within}
-use Rattle.std.specs.Prelude.{slice_get, take}
+use Rattle.std.specs.Prelude.{⊤, slice_get, take, Result, Ok, Err, OnOk, IfErr}
+use Rattle.std.specs.Result.{is_ok}
 use Rattle.std.specs.List.{list_all, count_by}
 use mathlib.Core.List.{IsPrefix}
 use Rattle.flow_item.specs.declared.item.Msg.{Msg}
@@ -37,6 +38,7 @@ use Rattle.flow_book.specs.Runs.{run_allows}
 use Rattle.flow_book.specs.Answers.{about_of, IsHalted, IsSame, IsShown}
 use Rattle.flow_book.specs.Callers.{number_of}
 use Rattle.flow_book.specs.declared.job.Job.{Job}
+use Rattle.flow_book.specs.declared.job.Unfinished.{Unfinished}
 use Rattle.flow_book.specs.Jobs.{IsJob, Ends, end_outs}
 use Rattle.flow_book.specs.Jobs as jobs
 use Rattle.flow_book.specs.declared.serve.Did.{Did}
@@ -191,3 +193,19 @@ unfinished-worker m run items events c d job outs stop w begun built ans l h =
     of-end : (e : Event) → Ends run.shape c.party job outs e → is_legal run.shape d.seen ≡ true → IsPrefix c.seen d.seen → IsWork m run d.seen e
     of-end e is legal later =
         (ap (body_kept m run.shape d.seen) is.1 ∙ ended-kept m run items events c job outs (number_of c.party) is.0 d.seen w.about begun built legal later ans, ap sent_by is.1)
+
+module _ (run : Run) (c d : Sitting Event Run) (job : Job) (outs : List Msg) where
+  -- what the end of a job leaves, whether it could be made or not
+  pub finish-worker : (m : Meanings) (items events : ℕ) (r : Result ⊤ Unfinished) (b : Bool) → b ≡ is_ok r → IsWorker m run items events c true → HasBegun c job
+      → list_all is_built run.shape.nodes ≡ true → answers_job m job.body job.item outs ≡ true → line.is_legal parties_of births_of run_allows d.about d.seen ≡ true
+      → d.own ≡ projection parties_of d.party d.seen → OnOk r (jobs.IsEnded run.shape c job outs d) → IfErr r (λ u. IsHalted c (Ends run.shape c.party job outs) d u.stop)
+      → IsWorker m run items events d (not b)
+  finish-worker m items events r b is w begun built ans l own ended stopped = subst (λ (b : Bool). IsWorker m run items events d (not b)) (sym is) (by_result r ended stopped)
+    where
+      by_result : (r : Result ⊤ Unfinished) → OnOk r (jobs.IsEnded run.shape c job outs d) → IfErr r (λ u. IsHalted c (Ends run.shape c.party job outs) d u.stop) → IsWorker m run items events d (not (is_ok r))
+      by_result (Ok x) e h = finished-worker m run items events c d job outs w begun built ans l own e
+      by_result (Err u) e h = unfinished-worker m run items events c d job outs u.stop w begun built ans l h
+
+  pub finish-worked : (r : Result ⊤ Unfinished) → OnOk r (jobs.IsEnded run.shape c job outs d) → IfErr r (λ u. IsHalted c (Ends run.shape c.party job outs) d u.stop) → HasWorked c d
+  finish-worked (Ok x) e h = worked-done c d _ e.1
+  finish-worked (Err u) e h = worked-kept c d (halted-kept c d (Ends run.shape c.party job outs) u.stop h)

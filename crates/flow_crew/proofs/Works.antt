@@ -5,11 +5,13 @@ use Rattle.std.specs.List.{list_any}
 use mathlib.Core.List.{IsPrefix}
 use Rattle.flow_item.specs.declared.event.Event.{Event}
 use Rattle.flow_item.specs.declared.event.Event.TheVariants as E
+use Rattle.flow_item.specs.declared.event.PutAnswer.{PutAnswer}
 use Rattle.flow_item.specs.declared.event.Party.{Party}
 use Rattle.flow_item.specs.declared.event.Party.TheVariants.{Node, Caller, Worker}
 use Rattle.flow_item.specs.declared.event.Stop.{Stop}
 use Rattle.flow_item.specs.declared.event.Stop.TheVariants.{Limit, Memory}
 use Rattle.flow_item.specs.declared.item.Msg.{Msg}
+use Rattle.flow_item.specs.declared.val.Val.{Val}
 use Rattle.flow_item.specs.Events.{parties_of}
 use Rattle.flow_item.specs.Legal.{projection, takes_part}
 use Rattle.flow_item.proofs.Journals.{replay-append}
@@ -22,7 +24,7 @@ use Rattle.flow_line.proofs.Beginnings.{prefix_self, prefix_trans, prefix_snoc}
 use Rattle.flow_book.specs.declared.machine.Run.{Run}
 use Rattle.flow_book.specs.declared.job.Job.{Job}
 use Rattle.flow_book.specs.declared.serve.Did.TheVariants as D
-use Rattle.flow_book.specs.Answers.{about_of, kept_first, IsKept, IsSame, IsDone, IsStopped, IsHalted}
+use Rattle.flow_book.specs.Answers.{about_of, kept_first, IsKept, IsSame, IsDone, IsStopped, IsHalted, Was}
 use Rattle.flow_book.specs.Callers.{number_of, is_caller_of, is_worker_about, is_idle_worker, may_call}
 use Rattle.flow_book.specs.Jobs.{IsJob, RunsJob}
 use Rattle.flow_book.specs.Serving.{IsServed}
@@ -124,6 +126,16 @@ pub caller-halted : (m : Meanings) (run : Run) (items events : ℕ) (c d : Sitti
 caller-halted m run items events c d Meant stop such w h =
     let k = halted-kept c d Meant stop h in
     caller-on m run items events c d w k.about k.party (such-halted (IsAnswered m run) c d Meant stop such h w.kept)
+
+-- a call that was to make an event which ends no body
+pub caller-was : (m : Meanings) (run : Run) (items events : ℕ) (c d : Sitting Event Run) (e : Event) (stop : Stop) → ((es : List Event) → body_kept m run.shape es e ≡ true)
+    → IsCaller m run items events c → IsHalted c (Was e) d stop → IsCaller m run items events d
+caller-was m run items events c d e stop kept w h = caller-halted m run items events c d (Was e) stop (λ f is. ap (body_kept m run.shape d.seen) is ∙ kept d.seen) w h
+
+pub caller-put : (m : Meanings) (run : Run) (items events : ℕ) (c d : Sitting Event Run) (k n port tag : ℕ) (val : Val) (stop : Stop)
+    → IsCaller m run items events c → IsHalted c (λ e. (a : PutAnswer) × (e ≡ E.Put k n port tag val a)) d stop → IsCaller m run items events d
+caller-put m run items events c d k n port tag val stop w h =
+    caller-halted m run items events c d (λ e. (a : PutAnswer) × (e ≡ E.Put k n port tag val a)) stop (λ f is. ap (body_kept m run.shape d.seen) is.1) w h
 
 none-more : (test : Event → Bool) (es : List Event) (e : Event) → list_any test es ≡ false → test e ≡ false → list_any test (es ++ e ∷ []) ≡ false
 none-more test [] e h n = ap (λ b. b || false) n

@@ -2,7 +2,7 @@
 ghost use Rattle.std.specs.Prelude.{◌≡◌, ◌<◌, ℕ, true, IfOk};
 ghost use Rattle.flow_machine.specs.Bodies.{Meanings};
 
-use flow_body::Shelf;
+use flow_body::{Add, Body, CountTo, Echo, FailMemory, Len, Mul, Neg, Pair, Part, SplitEven};
 use flow_item::{Item, NoMemory, Outs, Val};
 use std::alloc::Global;
 
@@ -26,25 +26,33 @@ pub trait Bodies: Sync {
             → IfOk result (λ outs. outs ≡ (meanings self.now).out body arg.now item.now.tag item.now.val) };
 }
 
-impl Bodies for Shelf {
-    ghost use Rattle.std.specs.Prelude.{length};
-    ghost use Rattle.flow_body.specs.Shelves.{meanings_of_shelf};
+/// The built-in bodies, by their numbers on their shelf.
+#[derive(Clone, Copy, Debug)]
+pub struct Builtin;
 
-    ghost count = { λ s. length s.bodies.items };
+impl Bodies for Builtin {
+    ghost use Rattle.flow_body.specs.Builtin.{meanings_of, builtin_bodies};
 
-    ghost meanings = { λ s. meanings_of_shelf (λ n. pure (n.body.vtable, n.body.value)) (λ n. single (n.body.vtable, n.body.value)) (λ n. out (n.body.vtable, n.body.value)) s.bodies.items };
+    ghost count = { λ b. 10 };
+
+    ghost meanings = { λ b. meanings_of builtin_bodies };
 
     fn count(&self) -> u32 {
-        self.len() as u32
+        10
     }
 
     fn run(&self, alloc: Global, body: u32, arg: &Val, item: &Item) -> Result<Outs, NoMemory> {
-        match self.body(body) {
-            Some(body) => {
-                let outs = body.run(alloc, arg, item)?;
-                Ok(outs)
-            }
-            None => unreachable!(),
+        match body {
+            0 => Add.run(alloc, arg, item),
+            1 => Mul.run(alloc, arg, item),
+            2 => Neg.run(alloc, arg, item),
+            3 => Len.run(alloc, arg, item),
+            4 => Part.run(alloc, arg, item),
+            5 => Pair.run(alloc, arg, item),
+            6 => Echo.run(alloc, arg, item),
+            7 => SplitEven.run(alloc, arg, item),
+            8 => CountTo.run(alloc, arg, item),
+            _ => FailMemory.run(alloc, arg, item),
         }
     }
 }

@@ -24,7 +24,7 @@ mod parts;
 mod waited;
 mod worker;
 
-pub use bodies::Bodies;
+pub use bodies::{Bodies, Builtin};
 pub use caller::Caller;
 pub use flow_book::{Gate, NoGate, Point};
 pub use graph::Graph;

@@ -12,7 +12,7 @@ use crate::bell::Bell;
 use crate::bodies::{Bench, Bodies};
 use crate::caller::Caller;
 use crate::graph::Graph;
-use crate::parts::Parts;
+use crate::parts::{Parts, turn};
 use crate::worker::Worker;
 use flow_book::{Book, Gate, GraphMachine};
 use flow_doc::Doc;
@@ -100,7 +100,7 @@ fn hire_callers<B: Naming>(
         let worker = last_worker(pool, workers, posts, true);
         callers.push(Caller { chair, worker })?;
     }
-    callers.as_mut_slice().reverse();
+    turn(&mut callers);
     Ok(callers)
 }
 
@@ -124,7 +124,7 @@ fn hire_workers<B: Naming>(
     'hire: while workers.len() < count as usize {
         workers.push(last_worker(pool, chairs, posts, false))?;
     }
-    workers.as_mut_slice().reverse();
+    turn(&mut workers);
     Ok(workers)
 }
 

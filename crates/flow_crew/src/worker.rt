@@ -199,7 +199,7 @@ impl<B: Naming> Worker<B> {
         }
     }
 
-    // Ends a job with these messages.
+    // Ends a job with these messages, and puts its node into the pool.
     fn finish<R: Wait, S: Bodies, G: Gate>(
         &mut self,
         alloc: Global,
@@ -210,7 +210,6 @@ impl<B: Naming> Worker<B> {
     ) -> Turn
         requires of { IsWorker (S.meanings graph.now.bench.bodies.now) graph.now.book.run graph.now.book.items graph.now.book.events self.old.chair true }
         requires post { IsPostOf graph.now.pool self.old.post }
-        requires busy { self.old.busy ≡ true }
         requires runs { RunsJob graph.now.book.run self.old.chair job }
         requires begun { HasBegun self.old.chair job }
         requires body { is_submit job.body ≡ false }
@@ -222,18 +221,39 @@ impl<B: Naming> Worker<B> {
         ensures idle { is_refused result ≡ false → self.new.busy ≡ false }
     {
         let node = job.node;
+        if !self.end(alloc, rt, graph, job, outs) {
+            return Turn::Refused;
+        }
+        turn_of(graph.push(rt, &mut self.post, node))
+    }
+
+    // Ends a job with these messages. Answers whether it could: else the job still runs.
+    fn end<R: Wait, S: Bodies, G: Gate>(
+        &mut self,
+        alloc: Global,
+        rt: &R,
+        graph: &Graph<S, G, B>,
+        job: Job,
+        outs: Outs,
+    ) -> bool
+        requires of { IsWorker (S.meanings graph.now.bench.bodies.now) graph.now.book.run graph.now.book.items graph.now.book.events self.old.chair true }
+        requires runs { RunsJob graph.now.book.run self.old.chair job }
+        requires begun { HasBegun self.old.chair job }
+        requires body { is_submit job.body ≡ false }
+        requires answers { answers_job (S.meanings graph.now.bench.bodies.now) job.body job.item outs ≡ true }
+        ensures of { IsWorker (S.meanings graph.now.bench.bodies.now) graph.now.book.run graph.now.book.items graph.now.book.events self.new.chair self.new.busy }
+        ensures busy { self.new.busy ≡ not result }
+        ensures post { self.new.post ≡ self.old.post }
+        ensures worked { HasWorked self.old.chair self.new.chair }
+    {
         let ended = graph
             .book
-            .finish(alloc, rt, &mut self.chair, job, outs, graph.gate);
+            .finish(alloc, rt, &mut self.chair, job, outs, graph.gate)
+            .is_ok();
         let _ = self.chair.len();
         let _ = self.chair.own_len();
-        match ended {
-            Ok(()) => {
-                self.busy = false;
-                turn_of(graph.push(rt, &mut self.post, node))
-            }
-            Err(_) => Turn::Refused,
-        }
+        self.busy = !ended;
+        ended
     }
 
     // Comes to work. It is to ask what is open where it finds no node.
