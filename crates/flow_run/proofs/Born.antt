@@ -8,7 +8,7 @@ use Rattle.flow_laws.specs.Moments.{IsWithinLimits}
 use Rattle.flow_run.proofs.Following.{drop-at}
 
 births-append : (xs ys : List Event) → births (xs ++ ys) ≡ births xs + births ys
-births-append [] ys = refl
+births-append [] ys = omega arith
 births-append (x ∷ xs) ys = let rest = births-append xs ys in omega (arith, rest)
 
 take-drop : {X : Type 0} (xs : List X) (k : ℕ) → xs ≡ take k xs ++ drop k xs

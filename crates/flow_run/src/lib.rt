@@ -6,3 +6,6 @@ mod follow;
 mod run;
 
 pub use run::run_all;
+
+#[cfg(test)]
+mod tests;

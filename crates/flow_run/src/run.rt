@@ -1,5 +1,5 @@
 //! A whole run of a document on threads.
-ghost use Rattle.std.specs.Prelude.{◌≡◌, ◌+◌, ◌<◌, ◌≤◌, ◌^◌, ◌++◌, [], true, None, is_some, length, map, All, OnOk, IfOk, IfSome};
+ghost use Rattle.std.specs.Prelude.{◌≡◌, ◌+◌, ◌<◌, ◌≤◌, ◌^◌, ◌++◌, [], true, None, is_ok, is_some, length, map, All, OnOk, IfOk, IfSome};
 ghost use Rattle.std.specs.List.{list_all, count_by};
 ghost use denote.Param.Send.{IsSync, IsSend};
 ghost use Rattle.flow_item.specs.Events.{births};
@@ -50,7 +50,12 @@ fn follow_all<B: Naming + Send + Sync, R: Threads + Wait + Sync, S: Bodies, G: G
         rt,
         callers,
         64,
-        &|_, caller: &mut Caller<B>| { follow(alloc, rt, graph, caller, doc) },
+        &|_, caller: &mut Caller<B>|
+            requires ready { IsCaller (S.meanings graph.now.bench.bodies.now) graph.now.book.run graph.now.book.items graph.now.book.events caller.old.chair × IsWorker (S.meanings graph.now.bench.bodies.now) graph.now.book.run graph.now.book.items graph.now.book.events caller.old.worker.chair caller.old.worker.busy × IsPostOf graph.now.pool caller.old.worker.post × (may_call graph.now.book.run caller.old.chair ≡ true) × IsNew caller.old.chair }
+            requires scripts { (graph.now.book.run.callers ≡ length doc.now.scripts) × (list_all (list_all (is_good_step graph.now.book.run.shape)) doc.now.scripts ≡ true) }
+            ensures followed { IsCaller (S.meanings graph.entry.now.bench.bodies.now) graph.entry.now.book.run graph.entry.now.book.items graph.entry.now.book.events caller.new.chair × IsWorker (S.meanings graph.entry.now.bench.bodies.now) graph.entry.now.book.run graph.entry.now.book.items graph.entry.now.book.events caller.new.worker.chair caller.new.worker.busy × FollowsOwn graph.entry.now.book.run.shape doc.entry.now.scripts caller.new.chair }
+            ensures party { (caller.new.chair.party ≡ caller.old.chair.party) × (caller.new.worker.chair.party ≡ caller.old.worker.chair.party) }
+        { follow(alloc, rt, graph, caller, doc) },
     );
 }
 
@@ -85,7 +90,11 @@ fn work_all<B: Naming + Send + Sync, R: Threads + Wait + Sync, S: Bodies, G: Gat
         rt,
         workers,
         64,
-        &|_, worker: &mut Worker<B>| { work(alloc, rt, graph, worker) },
+        &|_, worker: &mut Worker<B>|
+            requires { IsWorker (S.meanings graph.now.bench.bodies.now) graph.now.book.run graph.now.book.items graph.now.book.events worker.old.chair worker.old.busy × IsPostOf graph.now.pool worker.old.post }
+            ensures worked { IsWorker (S.meanings graph.entry.now.bench.bodies.now) graph.entry.now.book.run graph.entry.now.book.items graph.entry.now.book.events worker.new.chair worker.new.busy × IsPostOf graph.entry.now.pool worker.new.post }
+            ensures party { worker.new.chair.party ≡ worker.old.chair.party }
+        { work(alloc, rt, graph, worker) },
     );
 }
 
@@ -229,6 +238,45 @@ fn answer_of(refused: &Option<Event>, done: bool) -> Result<(), Stop>
     }
 }
 
+// Runs a document, and keeps the journal and the event that was refused.
+fn run_kept<R: Threads + Wait + Sync, S: Bodies, G: Gate>(
+    rt: &R,
+    alloc: Global,
+    doc: &Doc,
+    bodies: &S,
+    gate: &G,
+    workers: u32,
+    items: u64,
+    events: u64,
+    kept: &mut Kept,
+) -> Result<(), Stop>
+    requires fits { doc_fits (S.count bodies.now) doc.now ≡ true }
+    requires built { list_all is_built doc.now.shape.nodes ≡ true }
+    requires version { doc.now.version < 3 }
+    requires workers { (0 < workers) × (workers ≤ 64) }
+    requires limits { (items < 2 ^ 62) × (events < 2 ^ 62) }
+    requires fresh { IsFresh kept.old }
+    ensures document { SameDocument kept.old kept.new }
+    ensures run { IsRunOf (S.meanings bodies.now) doc.now.shape doc.now.scripts (workers + length doc.now.scripts) items events kept.new.journal kept.new.refused (is_ok result) }
+    ensures births { births kept.new.journal ≤ 2 ^ 63 }
+    ensures limit { is_some kept.new.refused ≡ is_limit result }
+{
+    let Ok(opened) = Opened::<GraphMachine>::new(alloc) else {
+        return Err(Stop::Memory);
+    };
+    match run_named::<Brand, R, S, G>(
+        rt, alloc, doc, bodies, gate, workers, items, events, opened,
+    ) {
+        Ok((journal, refused, done)) => {
+            tell_few(&journal, items, events);
+            kept.journal = journal;
+            kept.refused = refused;
+            answer_of(&kept.refused, done)
+        }
+        Err(_) => Err(Stop::Memory),
+    }
+}
+
 /// Runs a document on threads, to the end, to a limit or to want of memory: its callers follow their scripts, and so many
 /// workers serve the nodes. A caller that waits serves too, as a worker of its own. Each has a thread where one can be made. After want of
 /// memory the journal so far is kept, and all that is said of it holds.
@@ -274,18 +322,7 @@ pub fn run_all<R: Threads + Wait + Sync, S: Bodies, G: Gate>(
         (IsRefusedWithin (S.meanings bodies.now) doc.now.shape doc.now.scripts (workers + length doc.now.scripts) items events kept.new.journal) }
     ensures limit { is_some kept.new.refused ≡ is_limit result }
 {
-    let Ok(opened) = Opened::<GraphMachine>::new(alloc) else {
-        return Err(Stop::Memory);
-    };
-    match run_named::<Brand, R, S, G>(
-        rt, alloc, doc, bodies, gate, workers, items, events, opened,
-    ) {
-        Ok((journal, refused, done)) => {
-            tell_few(&journal, items, events);
-            kept.journal = journal;
-            kept.refused = refused;
-            answer_of(&kept.refused, done)
-        }
-        Err(_) => Err(Stop::Memory),
-    }
+    run_kept(
+        rt, alloc, doc, bodies, gate, workers, items, events, kept,
+    )
 }

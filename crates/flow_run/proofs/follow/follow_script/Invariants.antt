@@ -7,8 +7,8 @@ use Rattle.flow_run.proofs.follow.follow_script.Given as goal
 
 abbrev pub invariant-steps : goal.invariant-steps
 invariant-steps g l = record {
-  of : IsCaller (g.S.Bodies.meanings l.graph.bench.bodies) l.graph.book.run l.graph.book.items l.graph.book.events l.caller.chair;
-  worker : IsWorker (g.S.Bodies.meanings l.graph.bench.bodies) l.graph.book.run l.graph.book.items l.graph.book.events l.caller.worker.chair l.caller.worker.busy;
+  of : IsCaller (g.S.Bodies.meanings l.graph.bench.bodies.now) l.graph.book.run l.graph.book.items l.graph.book.events l.caller.chair;
+  worker : IsWorker (g.S.Bodies.meanings l.graph.bench.bodies.now) l.graph.book.run l.graph.book.items l.graph.book.events l.caller.worker.chair l.caller.worker.busy;
   post : IsPostOf l.graph.pool l.caller.worker.post;
   calls : may_call l.graph.book.run l.caller.chair ≡ true;
   none : l.caller.chair.kept ≡ None;
