@@ -96,7 +96,7 @@ impl<'a, S: Bodies, G: Gate, B: Naming> Graph<'a, S, G, B> {
 
     // The first refusal, which stands behind its lock before a refused call answers.
     pub(crate) fn refusal<R: Wait>(&self, rt: &R, c: &mut Chair<GraphMachine, B>) -> Stop
-        requires { KeepsRefused c.old }
+        requires kept { KeepsRefused c.old }
         ensures shown { Shows c.new result }
         ensures same { IsSame c.old c.new }
     {

@@ -11,7 +11,6 @@ ghost use Rattle.flow_book.specs.Callers.{may_call, takes_puts};
 ghost use Rattle.flow_crew.specs.Crew.{IsCaller, IsWorker};
 
 use super::*;
-use flow_body::{Add, Body, Named, Shelf};
 use flow_book::GraphMachine;
 use flow_doc::{Doc, Names, Nodes, Scripts};
 use flow_item::{Items, Text, Val};
@@ -47,7 +46,7 @@ fn scripts(alloc: Global) -> Result<Scripts, Fail>
 
 // A function that adds 1, before a queue.
 fn function_into_queue(alloc: Global) -> Result<Doc, Fail>
-    ensures fits { IfOk result (λ doc. doc_fits 1 doc ≡ true) }
+    ensures fits { IfOk result (λ doc. doc_fits 10 doc ≡ true) }
     ensures built { IfOk result (λ doc. list_all is_built doc.shape.nodes ≡ true) }
     ensures port { IfOk result (λ doc. takes_puts doc.shape 0 0 ≡ true) }
     ensures callers { IfOk result (λ doc. length doc.scripts ≡ 1) }
@@ -81,18 +80,6 @@ fn function_into_queue(alloc: Global) -> Result<Doc, Fail>
         scripts,
         sinks: Nodes::new(alloc),
     })
-}
-
-// A shelf of this body.
-fn shelf_of(alloc: Global, add: Box<dyn Body + Send + Sync>) -> Result<Shelf, Fail>
-    ensures { IfOk result (λ shelf. length shelf.bodies.items ≡ 1) }
-{
-    let mut bodies = Vec::new(alloc);
-    bodies.push(Named {
-        name: name(alloc, "add")?,
-        body: add,
-    })?;
-    Ok(Shelf::new(alloc, bodies).ok().ok_or("no memory")?)
 }
 
 // Puts 5 to the first node.
@@ -236,9 +223,8 @@ fn both_together<B: Naming + Send + Sync, S: Bodies, R: Threads + Wait + Abort +
 fn a_caller_and_a_worker(rt: HostRuntime) -> Result<(), Fail> {
     let alloc = rt.alloc();
     let doc = function_into_queue(alloc)?;
-    let shelf = shelf_of(alloc, Box::new(alloc, Add)?)?;
     let opened = Opened::<GraphMachine>::new(alloc).ok().ok_or("a line")?;
-    let events = both_together::<Brand, _, _>(&rt, alloc, &doc, &shelf, opened);
+    let events = both_together::<Brand, _, _>(&rt, alloc, &doc, &Builtin, opened);
     assert!(rt; events >= 7);
     Ok(())
 }
