@@ -1,7 +1,7 @@
 -- Lists whose members were changed one by one.
-use Rattle.std.proofs.Common.{◌≡◌, ℕ, zero, suc, ◌+◌, ◌<◌, ◌≤◌, Bool, true, List, [], ◌∷◌, ◌++◌, map, length, All, refl, sym, ap, ◌∙◌, subst, arith}
+use Rattle.std.proofs.Common.{◌≡◌, ℕ, zero, suc, ◌+◌, ◌<◌, ◌≤◌, Bool, true, List, [], ◌∷◌, ◌++◌, map, length, take, drop, All, refl, sym, ap, ◌∙◌, subst, arith}
 use Rattle.std.specs.Prelude.{slice_index_or}
-use Rattle.std.proofs.lemmas.List.{map-append, length-map}
+use Rattle.std.proofs.lemmas.List.{map-append, length-map, drop_all, append-nil}
 use Rattle.std.proofs.lemmas.List.Elements.{All-nil, All-cons, All-head, All-tail, All-append}
 use Rattle.flow_item.specs.declared.event.Event.{Event}
 use Rattle.flow_item.specs.declared.event.Party.{Party}
@@ -37,7 +37,7 @@ same-length f xs ys h = sym (length-map xs f) ∙ (ap length h ∙ length-map ys
 
 -- ---- chairs at their start
 
-map-twice : {X Y Z : Type 0} (f : X → Y) (g : Y → Z) (xs : List X) → map (λ x. g (f x)) xs ≡ map g (map f xs)
+pub map-twice : {X Y Z : Type 0} (f : X → Y) (g : Y → Z) (xs : List X) → map (λ x. g (f x)) xs ≡ map g (map f xs)
 map-twice f g [] = refl
 map-twice f g (x ∷ xs) = ap (λ zs. g (f x) ∷ zs) (map-twice f g xs)
 
@@ -59,7 +59,7 @@ fresh-new : (about : _) (ps : List Party) → All IsNew (map (fresh {E = Event} 
 fresh-new about [] = All-nil IsNew
 fresh-new about (p ∷ ps) = All-cons IsNew (fresh about p) (map (fresh about) ps) (refl, refl) (fresh-new about ps)
 
-all-imply : {X : Type 0} (P Q : X → Type 0) → ((x : X) → P x → Q x) → (xs : List X) → All P xs → All Q xs
+pub all-imply : {X : Type 0} (P Q : X → Type 0) → ((x : X) → P x → Q x) → (xs : List X) → All P xs → All Q xs
 all-imply P Q f [] h = All-nil Q
 all-imply P Q f (x ∷ xs) h = All-cons Q x xs (f x (All-head P x xs h)) (all-imply P Q f xs (All-tail P x xs h))
 
@@ -81,3 +81,24 @@ all-ready {X} f g busy Post m run items events i e ps xs same_i same_e chairs re
       h.1.1,
     )) xs
     (all-both A (λ x. B x × C x) xs ready (all-both B C xs waiters new))
+
+-- ---- lists that were lent
+
+-- what was written back to a list as long as it was is the list
+pub written : {X : Type 0} (len : ℕ) (old xs : List X) → len ≡ length old → length xs ≡ length old → take len (xs ++ drop (length xs) old) ≡ xs
+written len old xs is same =
+    ap (λ ys. take len (xs ++ ys)) (drop_all (length xs) old (let le : length old ≤ length xs = omega (arith, same) in le))
+    ∙ (ap (take len) (append-nil xs) ∙ take-whole len xs (let enough : length xs ≤ len = omega (arith, is, same) in enough))
+  where
+    take-whole : {X : Type 0} (n : ℕ) (xs : List X) → length xs ≤ n → take n xs ≡ xs
+    take-whole zero [] h = refl
+    take-whole (suc n) [] h = refl
+    take-whole zero (x ∷ xs) h = absurd (let never : ⊥ = omega (arith, h) in never)
+    take-whole (suc n) (x ∷ xs) h = ap (λ ys. x ∷ ys) (take-whole n xs (omega (arith, h)))
+
+-- callers and their workers are of the run
+pub abouts : {X : Type 0} (f g : X → Sitting Event Run) (busy : X → Bool) (F : X → Type 0) (m : Meanings) (run : Run) (items events : ℕ) (xs : List X) → All (λ x. IsCaller m run items events (f x) × IsWorker m run items events (g x) (busy x) × F x) xs
+    → All (λ x. ((f x).about ≡ about_of run items events) × ((g x).about ≡ about_of run items events)) xs
+abouts f g busy F m run items events xs h =
+    all-imply (λ x. IsCaller m run items events (f x) × IsWorker m run items events (g x) (busy x) × F x) (λ x. ((f x).about ≡ about_of run items events) × ((g x).about ≡ about_of run items events))
+    (λ x t. (t.0.about, t.1.about)) xs h

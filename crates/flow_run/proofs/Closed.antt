@@ -2,7 +2,7 @@
 use Rattle.std.proofs.Common.{◌≡◌, ℕ, zero, suc, ◌+◌, ◌<◌, ◌≤◌, ◌^◌, Bool, true, false, cond, not, ◌&&◌, ◌||◌, ltb, eqb, Option, Some, None, List, map, [], ◌∷◌, ◌++◌, length, drop, All, refl, sym, ap, ◌∙◌, subst, arith, append_assoc, append-nil}
 use Rattle.std.proofs.lemmas.Bool.{ltb-true, eqb-true}
 use Rattle.std.proofs.lemmas.List.{map-append, length-append}
-use Rattle.std.proofs.lemmas.List.Elements.{All-nil, All-cons, All-head, All-tail, All-append}
+use Rattle.std.proofs.lemmas.List.Elements.{All-head, All-tail, All-append, All-map}
 use Rattle.std.proofs.lemmas.List.Folds.{list_all-append}
 use Rattle.std.proofs.lemmas.Option.{same_Some, slice_get-map, slice_get-get_or, slice_get_within}
 use Rattle.std.proofs.Math.ListN.{get_or-append}
@@ -51,6 +51,7 @@ use Rattle.flow_run.specs.Following.{IsRefusedStep, HasFollowed, FollowsOwn}
 use Rattle.flow_run.specs.Refusals.{IsRefusedWithin}
 use Rattle.flow_run.specs.Runs.{IsRunOf, SawTheEnd}
 use Rattle.flow_run.proofs.BodyLemmas.{all-there, bodies-start, bodies-of-workers}
+use Rattle.flow_run.proofs.Changed.{all-imply, map-twice}
 use Rattle.flow_run.proofs.Following.{all_sent-append, not-less, waited-longer}
 
 -- ---- chairs by number
@@ -289,10 +290,6 @@ module _ (m : Meanings) (shape : Shape) (scripts : List (List Step)) (workers it
 
 -- ---- the whole run
 
-all-imply : {X : Type 0} (P Q : X → Type 0) → ((x : X) → P x → Q x) → (xs : List X) → All P xs → All Q xs
-all-imply P Q f [] h = All-nil Q
-all-imply P Q f (x ∷ xs) h = All-cons Q x xs (f x (All-head P x xs h)) (all-imply P Q f xs (All-tail P x xs h))
-
 caller-party : (n : ℕ) (p : Party) → is_caller_of n p ≡ true → (p ≡ Caller (number_of p)) × (number_of p < n)
 caller-party n (Caller c) h = (refl, ltb-true c n h)
 caller-party n (Node m) h = cc
@@ -402,3 +399,53 @@ run-closed m run scripts items events es refused done callers helpers h =
     let same : run ≡ run_of m run.shape scripts run.workers items events es = (λ i. record { shape = run.shape; callers = h.scripted i; workers = run.workers }) in
     run-known m run.shape scripts run.workers items events es refused done callers helpers
     (subst (λ (r : Run). IsClosed m r scripts items events es refused done callers helpers) same h)
+
+-- ---- the parts of a closed run
+
+saw-more : (run : Run) (cs ds : List (Sitting Event Run)) → SawTheEnd run cs → SawTheEnd run (cs ++ ds)
+saw-more run cs ds s = record {
+  before = s.before;
+  after = s.after ++ ds;
+  chair = s.chair;
+  is = ap (λ l. l ++ ds) s.is ∙ append_assoc s.before (s.chair ∷ s.after) ds;
+  left = s.left;
+  closed = s.closed;
+}
+
+module _ {X Y : Type 0} (f g : X → Sitting Event Run) (fb : X → Bool) (h : Y → Sitting Event Run) (hb : Y → Bool) (Post : Y → Type 0) (m : Meanings) (run : Run) (scripts : List (List Step)) (items events : ℕ) where
+  abbrev Caller_at : X → Type 0
+  Caller_at x = IsCaller m run items events (f x) × IsWorker m run items events (g x) (fb x) × FollowsOwn run.shape scripts (f x)
+
+  abbrev Working : Sitting Event Run → Type 0
+  Working c = (busy : Bool) × IsWorker m run items events c busy
+
+  abbrev chairs_of : List X → List Y → List (Sitting Event Run)
+  chairs_of xs ys = map f xs ++ (map h ys ++ map g xs)
+
+  -- a run whose callers and workers were closed
+  pub parts-closed : (es : List Event) (refused : Option Event) (done : Bool) (new xs : List X) (ys : List Y) → IsValid run.shape → run.callers ≡ length scripts → xs ≡ new
+      → All Caller_at new → All (λ y. IsWorker m run items events (h y) (hb y) × Post y) ys → map (λ x. (f x).party) new ≡ callers_of run → map (λ y. (h y).party) ys ++ map (λ x. (g x).party) new ≡ workers_of run
+      → is_run run.shape run.callers run.workers es ≡ true → All (IsPart parties_of (about_of run items events) es) (chairs_of xs ys) → IsWithinLimits items events es → refused ≡ first_kept (chairs_of xs ys)
+      → (done ≡ true → SawTheEnd run (map h ys)) → IsRunOf m run.shape scripts run.workers items events es refused done
+  parts-closed es refused done new xs ys valid scripted same followed worked numbers helpers legal parts within kept end =
+      let at_new : All (IsPart parties_of (about_of run items events) es) (chairs_of new ys) = subst (λ (l : List X). All (IsPart parties_of (about_of run items events) es) (chairs_of l ys)) same parts in
+      let two = all-parts (IsPart parties_of (about_of run items events) es) (map f new) (map h ys ++ map g new) at_new in
+      run-closed m run scripts items events es refused done (map f new) (map h ys ++ map g new) record {
+        valid = valid;
+        scripted = scripted;
+        legal = legal;
+        caller_parts = two.0;
+        helper_parts = two.1;
+        within = within;
+        refused_is = kept ∙ ap (λ l. first_kept (chairs_of l ys)) same;
+        caller_numbers = sym (map-twice f (λ (c : Sitting Event Run). c.party) new) ∙ numbers;
+        helper_numbers =
+            map-append (λ (c : Sitting Event Run). c.party) (map h ys) (map g new)
+            ∙ ((λ i. sym (map-twice h (λ (c : Sitting Event Run). c.party) ys) i ++ sym (map-twice g (λ (c : Sitting Event Run). c.party) new) i) ∙ helpers);
+        followed = All-map (λ c. IsCaller m run items events c × FollowsOwn run.shape scripts c) f new
+            (all-imply Caller_at (λ x. IsCaller m run items events (f x) × FollowsOwn run.shape scripts (f x)) (λ x t. (t.0, t.2)) new followed);
+        worked = All-append Working (map h ys) (map g new)
+            (All-map Working h ys (all-imply (λ y. IsWorker m run items events (h y) (hb y) × Post y) (λ y. Working (h y)) (λ y t. (hb y, t.0)) ys worked))
+            (All-map Working g new (all-imply Caller_at (λ x. Working (g x)) (λ x t. (fb x, t.1)) new followed));
+        end = λ is. saw-more run (map h ys) (map g new) (end is);
+      }

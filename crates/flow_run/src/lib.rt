@@ -5,6 +5,7 @@ mod births;
 mod follow;
 mod run;
 
+pub use flow_crew::{Bodies, Builtin, Gate, NoGate, Point};
 pub use run::run_all;
 
 #[cfg(test)]

@@ -2,9 +2,6 @@ use Rattle.std.proofs.Common.{◌+◌, length}
 use Rattle.flow_run.proofs.Answered.{answered, not-run, few-at-start}
 use Rattle.flow_run.proofs.run.run_kept.Goals as goal
 
-pub returns-in-Ok-clause-run : goal.returns-in-Ok-clause-run
-returns-in-Ok-clause-run g c = answered _ c.args.doc.now.shape c.args.doc.now.scripts (c.args.workers + length c.args.doc.now.scripts) c.args.items c.args.events _ _ _ _ c.answer_of.result c.answer_of.ensures.done c.in-Ok.ensures
-
 pub returns-in-Err-clause-run : goal.returns-in-Err-clause-run
 returns-in-Err-clause-run g c = not-run _ c.args.doc.now.shape c.args.doc.now.scripts (c.args.workers + length c.args.doc.now.scripts) c.args.items c.args.events c.args.kept.now.journal c.args.kept.now.refused c.requires.fresh.journal c.requires.fresh.refused
 
