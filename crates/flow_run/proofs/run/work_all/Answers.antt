@@ -4,10 +4,10 @@ use Rattle.flow_run.proofs.Changed.{map-same}
 use Rattle.flow_run.proofs.run.work_all.Goals as goal
 
 pub for_each_mut-requires-send-T : goal.for_each_mut-requires-send-T
-for_each_mut-requires-send-T g c = λ κs lives. ?
+for_each_mut-requires-send-T g c = λ κs lives. search sendable depth 30
 
 pub for_each_mut-requires-sync-F : goal.for_each_mut-requires-sync-F
-for_each_mut-requires-sync-F g c = λ κs lives. ?
+for_each_mut-requires-sync-F g c = λ κs lives. search sendable depth 30
 
 pub returns-clause-parties : goal.returns-clause-parties
 returns-clause-parties g c = map-same (λ w. w.chair.party) c.args.workers.now c.for_each_mut.new.s (search rules)
