@@ -1,5 +1,5 @@
 -- What a body answers is what it means.
-use Rattle.std.proofs.Common.{◌≡◌, ℕ, Bool, true, false, cond, refl, sym, ap, ◌∙◌, subst}
+use Rattle.std.proofs.Common.{◌≡◌, ℕ, Bool, true, false, cond, refl, sym, ap, ◌∙◌}
 use Rattle.std.specs.Prelude.{Result, Ok, Err, IfOk, List}
 use Rattle.flow_item.specs.declared.val.Val.{Val}
 use Rattle.flow_item.specs.declared.item.Item.{Item}

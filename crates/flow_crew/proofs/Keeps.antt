@@ -1,16 +1,14 @@
 -- Who runs a body on the item with which it began keeps the body's meaning.
-use Rattle.std.proofs.Common.{◌≡◌, ℕ, suc, ◌+◌, ◌<◌, ◌≤◌, Bool, true, false, cond, not, ◌&&◌, ◌||◌, eqb, length, Option, Some, None, List, [], ◌∷◌, ◌++◌, refl, sym, ap, ◌∙◌, subst, arith, eq-eqb, append-nil, append_assoc}
+use Rattle.std.proofs.Common.{◌≡◌, ℕ, Bool, true, false, cond, Option, Some, None, List, ◌++◌, refl, sym, ap, ◌∙◌, subst, eq-eqb}
 use Rattle.std.specs.Prelude.{slice_get, if◌then◌else◌}
 use Rattle.std.specs.List.{list_all}
-use mathlib.Core.List.{IsPrefix}
 use Rattle.flow_item.specs.declared.item.Item.{Item}
 use Rattle.flow_item.specs.declared.item.Msg.{Msg}
 use Rattle.flow_item.specs.declared.event.Event.{Event}
 use Rattle.flow_item.specs.declared.event.Event.TheVariants as E
-use Rattle.flow_item.specs.declared.event.Party.{Party}
 use Rattle.flow_item.specs.declared.event.Party.TheVariants.{Node}
 use Rattle.flow_item.specs.Events.{parties_of}
-use Rattle.flow_item.specs.Legal.{projection, replay, takes_part}
+use Rattle.flow_item.specs.Legal.{projection, replay}
 use Rattle.flow_item.specs.Lists.{first}
 use Rattle.flow_item.specs.Values.{same_msgs}
 use Rattle.flow_item.proofs.Journals.{projection-append, replay-append}
@@ -28,7 +26,6 @@ use Rattle.flow_progress.proofs.Once.{Once, once}
 use Rattle.flow_node.specs.Built.{is_built}
 use Rattle.flow_book.specs.Jobs.{body_of, next_item}
 use Rattle.flow_book.specs.declared.job.JobBody.{JobBody}
-use Rattle.flow_book.specs.declared.job.JobBody.TheVariants as J
 use Rattle.flow_crew.specs.Bodies.{answers_job}
 use Rattle.flow_crew.proofs.Stays.{Fit, fit-first, fit-replayed, fit-running}
 

@@ -1,5 +1,5 @@
 -- What a party made keeps its meaning while more is seen.
-use Rattle.std.proofs.Common.{◌≡◌, ℕ, suc, ◌+◌, ◌<◌, ◌≤◌, Bool, true, false, cond, ◌⊎◌, inl, inr, Option, Some, None, List, [], ◌∷◌, ◌++◌, length, filter, refl, sym, ap, ◌∙◌, subst, arith, append-nil, append_assoc, length-append}
+use Rattle.std.proofs.Common.{◌≡◌, ℕ, ◌+◌, ◌<◌, ◌≤◌, Bool, true, cond, ◌⊎◌, inl, inr, Option, List, [], ◌∷◌, ◌++◌, length, refl, sym, ap, ◌∙◌, arith, append-nil, append_assoc, length-append}
 use Rattle.std.proofs.lemmas.Bool.{cases_lt}
 use mathlib.Core.List.{IsPrefix}
 use Rattle.flow_item.specs.declared.event.Event.{Event}
@@ -11,7 +11,7 @@ use Rattle.flow_shape.specs.declared.Shape.{Shape}
 use Rattle.flow_machine.specs.Bodies.{Meanings, body_kept}
 use Rattle.flow_line.specs.declared.view.About.{About}
 use Rattle.flow_line.specs.Values.{Sitting, IsPart}
-use Rattle.flow_line.proofs.Beginnings.{prefix_self, prefix_trans, prefix_shorter, prefix_whole, prefix_length}
+use Rattle.flow_line.proofs.Beginnings.{prefix_trans, prefix_shorter, prefix_whole}
 use Rattle.flow_book.specs.declared.machine.Run.{Run}
 use Rattle.flow_book.specs.Answers.{IsKept, IsDone}
 use Rattle.flow_crew.specs.Bodies.{KeptAt, KeepsOwn, KeepsOf}

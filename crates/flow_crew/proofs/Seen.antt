@@ -1,5 +1,5 @@
 -- What follows from what a chair of the run has seen.
-use Rattle.std.proofs.Common.{◌≡◌, ℕ, zero, suc, ◌+◌, ◌<◌, ◌≤◌, Bool, true, false, cond, not, ◌&&◌, ◌⊎◌, Option, Some, None, List, [], ◌∷◌, ◌++◌, length, min, refl, sym, ap, ◌∙◌, subst, arith, inl, inr, ltb}
+use Rattle.std.proofs.Common.{◌≡◌, ℕ, ◌+◌, ◌<◌, ◌≤◌, Bool, true, false, cond, not, ◌&&◌, Option, Some, None, List, [], ◌∷◌, ◌++◌, length, refl, sym, ap, ◌∙◌, subst, arith, inl, inr}
 use Rattle.std.proofs.lemmas.Bool.{ltb-true}
 use Rattle.std.proofs.lemmas.List.Folds.{list_all-append}
 use Rattle.std.proofs.lemmas.List.Sums.{sum_by-append}
@@ -46,7 +46,6 @@ use Rattle.flow_book.specs.declared.serve.Did.TheVariants as D
 use Rattle.flow_book.specs.Serving.{AreNodes, IsServed}
 use Rattle.flow_book.specs.Unrest.{most}
 use Rattle.flow_book.proofs.Whole.{legal-run}
-use Rattle.flow_book.proofs.Serves.{same-on}
 use Rattle.flow_crew.specs.Crew.{HasBegun, IsEnded, IsGiven, IsWaited, IsWork, IsWorker, HasWorked, is_started}
 use Rattle.flow_crew.specs.Bodies.{answers_job}
 use Rattle.flow_crew.proofs.Keeps.{is_function, built-function, answers-kind, end-keeps}

@@ -1,5 +1,5 @@
 -- The event of a wish is no caller's, and ends no body.
-use Rattle.std.proofs.Common.{◌≡◌, ℕ, Bool, true, false, cond, Option, Some, None, List, [], map, refl, sym, ap, ◌∙◌, subst}
+use Rattle.std.proofs.Common.{◌≡◌, ℕ, Bool, true, false, cond, Option, Some, None, List, map, refl, sym, ap, ◌∙◌, subst}
 use Rattle.std.specs.Option.{option_map}
 use Rattle.std.specs.List.{find}
 use Rattle.flow_item.specs.declared.item.Item.{Item}
@@ -7,14 +7,12 @@ use Rattle.flow_item.specs.declared.event.Event.{Event}
 use Rattle.flow_item.specs.declared.event.Event.TheVariants as E
 use Rattle.flow_item.specs.declared.event.Link.{Link}
 use Rattle.flow_item.specs.Lists.{first}
-use Rattle.flow_shape.specs.declared.Wire.{Wire}
 use Rattle.flow_shape.specs.Places.{wire_in}
 use Rattle.flow_machine.specs.State.{Part, split_part, PlacedNode}
 use Rattle.flow_machine.specs.Offers.{candidates, Room, lands, bars, by_hold, has_room, room, next_tuple, split_msgs}
 use Rattle.flow_machine.specs.Enabled.{is_numbered, part_takes_holds, hold_number}
-use Rattle.flow_machine.specs.Bodies.{Meanings, body_kept}
-use Rattle.flow_machine.specs.Scripts.{sent_by}
-use Rattle.flow_machine.specs.WishEvents.{link_over, given_event, offer_event, ask_event, id_of, form_event, split_event, tuple_event, where_some, event_of, event_of_wish, placed_at}
+use Rattle.flow_machine.specs.Bodies.{Meanings}
+use Rattle.flow_machine.specs.WishEvents.{link_over, given_event, offer_event, ask_event, id_of, tuple_event, where_some, event_of, event_of_wish, placed_at}
 use Rattle.flow_machine.specs.declared.Wish.{Wish}
 use Rattle.flow_machine.specs.declared.Wish.TheVariants as W
 use Rattle.flow_line.specs.declared.view.About.{About}

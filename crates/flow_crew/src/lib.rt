@@ -31,6 +31,3 @@ pub use graph::Graph;
 pub use parts::Parts;
 pub use waited::Waited;
 pub use worker::Worker;
-
-#[cfg(test)]
-mod tests;

@@ -1,4 +1,4 @@
-use Rattle.std.proofs.Common.{◌≡◌, ◌∙◌, sym, ap, Some}
+use Rattle.std.proofs.Common.{◌∙◌, ap, Some}
 use Rattle.flow_crew.proofs.Answered.{answers-run}
 use Rattle.flow_crew.proofs.Shelved.{body-there, body-runs}
 use Rattle.flow_crew.proofs.graph.Graph.answer.Goals as goal

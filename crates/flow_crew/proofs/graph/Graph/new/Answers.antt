@@ -1,9 +1,8 @@
-use Rattle.std.proofs.Common.{◌≡◌, ◌+◌, ◌<◌, ◌≤◌, [], ◌∷◌, ◌++◌, true, false, length, map, All, refl, sym, ap, ◌∙◌, subst, arith}
+use Rattle.std.proofs.Common.{◌≡◌, ◌++◌, true, false, length, map, All, sym, ap, ◌∙◌, subst, arith}
 use Rattle.std.specs.List.{list_all}
 use Rattle.flow_doc.specs.Fits.{kind_fits}
 use Rattle.flow_pool.specs.Posts.{IsPostOf}
 use Rattle.flow_book.specs.Callers.{may_call}
-use Rattle.flow_book.specs.Opening.{callers_of, workers_of, fresh_chairs}
 use Rattle.flow_crew.specs.Crew.{IsCaller, IsWorker}
 use Rattle.flow_crew.proofs.Fitted.{fitted}
 use Rattle.flow_crew.proofs.Lists.{left-over, all-out}

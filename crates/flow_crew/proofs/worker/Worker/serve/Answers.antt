@@ -1,4 +1,4 @@
-use Rattle.std.proofs.Common.{◌≡◌, ◌∙◌, false, subst}
+use Rattle.std.proofs.Common.{◌∙◌, subst}
 use Rattle.flow_crew.specs.Crew.{IsWorker}
 use Rattle.flow_crew.proofs.Seen.{served-given, served-worker, served-worked}
 use Rattle.flow_crew.proofs.Wished.{wish-works}
