@@ -2,7 +2,7 @@
 use Rattle.std.proofs.Common.{◌≡◌, ℕ, zero, suc, ◌+◌, ◌<◌, ◌≤◌, ◌^◌, Bool, true, false, cond, not, ◌&&◌, ◌||◌, ltb, eqb, Option, Some, None, List, map, [], ◌∷◌, ◌++◌, length, drop, All, refl, sym, ap, ◌∙◌, subst, arith, append_assoc, append-nil}
 use Rattle.std.proofs.lemmas.Bool.{ltb-true, eqb-true}
 use Rattle.std.proofs.lemmas.List.{map-append, length-append}
-use Rattle.std.proofs.lemmas.List.Elements.{All-head, All-tail}
+use Rattle.std.proofs.lemmas.List.Elements.{All-head, All-tail, All-append, All-map}
 use Rattle.std.proofs.lemmas.List.Folds.{list_all-append}
 use Rattle.std.proofs.lemmas.Option.{same_Some, slice_get-map, slice_get-get_or, slice_get_within}
 use Rattle.std.proofs.Math.ListN.{get_or-append}
@@ -36,16 +36,22 @@ use Rattle.flow_line.specs.Kept.{kept_event, or_else, first_kept}
 use Rattle.flow_line.proofs.Beginnings.{prefix_trans}
 use Rattle.flow_book.specs.declared.machine.Run.{Run}
 use Rattle.flow_book.specs.Answers.{about_of, passes}
-use Rattle.flow_book.specs.Callers.{number_of}
-use Rattle.flow_book.specs.Opening.{numbers_below}
+use Rattle.flow_book.specs.Callers.{number_of, is_caller_of}
+use Rattle.flow_book.specs.Opening.{numbers_below, callers_of, workers_of}
 use Rattle.flow_work.specs.Promises.{FollowsScripts, CompletesScripts, HeedsWaits, KeepsBodies, WaitedAt}
 use Rattle.flow_work.proofs.CursorLemmas.{sent_of-snoc}
 use Rattle.flow_work.proofs.RunLemmas.{plain-kept, bodies-snoc}
-use Rattle.flow_crew.specs.Crew.{KeptSuch, KeepsSuch, IsWork}
+use Rattle.flow_crew.specs.Bodies.{KeepsOf}
+use Rattle.flow_crew.specs.Crew.{KeptSuch, KeepsSuch, IsWork, IsCaller, IsWorker}
+use Rattle.flow_crew.proofs.Owned.{kept-part}
 use Rattle.flow_crew.proofs.Quiet.{nothing-follows, stays}
+use Rattle.flow_crew.proofs.Ready.{all-both, all-parts}
+use Rattle.flow_item.proofs.Places.{slice_get-below}
 use Rattle.flow_run.specs.Following.{IsRefusedStep, HasFollowed, FollowsOwn}
 use Rattle.flow_run.specs.Refusals.{IsRefusedWithin}
-use Rattle.flow_run.proofs.BodyLemmas.{all-there, bodies-start}
+use Rattle.flow_run.specs.Runs.{IsRunOf, SawTheEnd}
+use Rattle.flow_run.proofs.BodyLemmas.{all-there, bodies-start, bodies-of-workers}
+use Rattle.flow_run.proofs.Changed.{all-imply, map-twice}
 use Rattle.flow_run.proofs.Following.{all_sent-append, not-less, waited-longer}
 
 -- ---- chairs by number
@@ -281,3 +287,165 @@ module _ (m : Meanings) (shape : Shape) (scripts : List (List Step)) (workers it
             refused = record { passes = passes-there c h.0 e part h.3; follows = work-follows h.0 e begins h.4.1 follows };
             bodies = bodies-snoc m shape h.0 e (bodies-before h.0 begins kept) h.4.0;
           }
+
+-- ---- the whole run
+
+caller-party : (n : ℕ) (p : Party) → is_caller_of n p ≡ true → (p ≡ Caller (number_of p)) × (number_of p < n)
+caller-party n (Caller c) h = (refl, ltb-true c n h)
+caller-party n (Node m) h = cc
+caller-party n (Worker w) h = cc
+
+-- what is known of a closed run
+pub record IsClosed (m : Meanings) (run : Run) (scripts : List (List Step)) (items events : ℕ) (es : List Event) (refused : Option Event) (done : Bool) (callers helpers : List (Sitting Event Run)) : Type 0 where
+  pub valid : IsValid run.shape
+  pub scripted : run.callers ≡ length scripts
+  pub legal : is_run run.shape run.callers run.workers es ≡ true
+  pub caller_parts : All (IsPart parties_of (about_of run items events) es) callers
+  pub helper_parts : All (IsPart parties_of (about_of run items events) es) helpers
+  pub within : IsWithinLimits items events es
+  pub refused_is : refused ≡ first_kept (callers ++ helpers)
+  pub caller_numbers : map (λ c. c.party) callers ≡ callers_of run
+  pub helper_numbers : map (λ c. c.party) helpers ≡ workers_of run
+  pub followed : All (λ c. IsCaller m run items events c × FollowsOwn run.shape scripts c) callers
+  pub worked : All (λ c. (busy : Bool) × IsWorker m run items events c busy) helpers
+  pub end : done ≡ true → SawTheEnd run helpers
+
+module _ (m : Meanings) (shape : Shape) (scripts : List (List Step)) (workers items events : ℕ) (es : List Event) (refused : Option Event) (done : Bool) (callers helpers : List (Sitting Event Run)) where
+  abbrev run : Run
+  run = run_of m shape scripts workers items events es
+
+  abbrev Closed : Type 0
+  Closed = IsClosed m run scripts items events es refused done callers helpers
+
+  caller-at : Closed → (n : ℕ) → n < length scripts → (c : Sitting Event Run) × (IsPart parties_of (about_of run items events) es c × (IsCaller m run items events c × FollowsOwn shape scripts c)) × (c.party ≡ Caller n)
+  caller-at h n below =
+      by-number Caller (λ c. IsPart parties_of (about_of run items events) es c × (IsCaller m run items events c × FollowsOwn shape scripts c)) (length scripts) callers h.caller_numbers
+      (all-both (IsPart parties_of (about_of run items events) es) (λ c. IsCaller m run items events c × FollowsOwn shape scripts c) callers h.caller_parts h.followed) n below
+
+  -- the script of the caller with this number
+  script-of : (c : Sitting Event Run) (n : ℕ) (steps : List Step) → c.party ≡ Caller n → slice_get scripts n ≡ Some steps → FollowsOwn shape scripts c → HasFollowed shape steps c
+  script-of c n steps party at follows = follows steps (ap (λ (p : Party). slice_get scripts (number_of p)) party ∙ at)
+
+  all-follow : Closed → FollowsScripts shape scripts es
+  all-follow h n steps at =
+      let x = caller-at h n (slice_get_within scripts n steps at) in
+      follows-one shape steps run items events es x.0 n (script-of x.0 n steps x.2 at x.1.1.1) x.1.0 x.2
+
+  all-heed : Closed → HeedsWaits shape scripts es
+  all-heed h n steps k at wait more =
+      let x = caller-at h n (slice_get_within scripts n steps at) in
+      heeds-one shape steps run items events es x.0 n (script-of x.0 n steps x.2 at x.1.1.1) x.1.0 x.2 k wait more
+
+  all-bodies : Closed → KeepsBodies m shape es
+  all-bodies h = bodies-of-workers m shape (length scripts) workers es h.legal each
+    where
+      each : (w : ℕ) → w < workers → KeepsOf m shape (Worker w) es
+      each w below =
+          let x = by-number Worker (λ c. IsPart parties_of (about_of run items events) es c × ((busy : Bool) × IsWorker m run items events c busy)) workers helpers h.helper_numbers
+          (all-both (IsPart parties_of (about_of run items events) es) (λ c. (busy : Bool) × IsWorker m run items events c busy) helpers h.helper_parts h.worked) w below in
+          subst (λ (p : Party). KeepsOf m shape p es) x.2 (kept-part m shape (about_of run items events) es x.0 x.1.0 x.1.1.1.bodies)
+
+  abbrev Refused : Event → Type 0
+  Refused e = IsRefusedWithin m shape scripts workers items events es e
+
+  callers-kept : Closed → All (λ c. IfSome c.kept (λ kept. Refused kept.0)) callers
+  callers-kept h =
+      all-imply (λ c. IsPart parties_of (about_of run items events) es c × (IsCaller m run items events c × FollowsOwn shape scripts c)) (λ c. IfSome c.kept (λ kept. Refused kept.0)) one callers
+      (all-both (IsPart parties_of (about_of run items events) es) (λ c. IsCaller m run items events c × FollowsOwn shape scripts c) callers h.caller_parts h.followed)
+    where
+      one : (c : Sitting Event Run) → IsPart parties_of (about_of run items events) es c × (IsCaller m run items events c × FollowsOwn shape scripts c) → IfSome c.kept (λ kept. Refused kept.0)
+      one c x =
+          let p = caller-party (length scripts) c.party x.1.0.caller in
+          let s = slice_get-below scripts (number_of c.party) p.1 in
+          let f = x.1.1 s.0 s.1 in
+          by_kept (all-follow h) (all-bodies h) s.0 s.1 p.0 f c.kept f.refused
+        where
+          by_kept : FollowsScripts shape scripts es → KeepsBodies m shape es → (steps : List Step) → slice_get scripts (number_of c.party) ≡ Some steps → c.party ≡ Caller (number_of c.party) → (f : HasFollowed shape steps c)
+              → (o : Option (Event × ℕ)) → IfSome o (λ kept. IsRefusedStep c f.left kept.0) → IfSome o (λ kept. Refused kept.0)
+          by_kept follows bodies steps at party f None r = _
+          by_kept follows bodies steps at party f (Some kept) r = caller-refused m shape scripts workers items events es c (number_of c.party) steps kept.0 at party x.0 follows bodies f r
+
+  helpers-kept : Closed → All (λ c. IfSome c.kept (λ kept. Refused kept.0)) helpers
+  helpers-kept h =
+      all-imply (λ c. IsPart parties_of (about_of run items events) es c × ((busy : Bool) × IsWorker m run items events c busy)) (λ c. IfSome c.kept (λ kept. Refused kept.0))
+      (λ c x. worker-refused m shape scripts workers items events es c x.0 (all-follow h) (all-bodies h) x.1.1.kept) helpers
+      (all-both (IsPart parties_of (about_of run items events) es) (λ c. (busy : Bool) × IsWorker m run items events c busy) helpers h.helper_parts h.worked)
+
+  -- the chair that saw the end saw the whole journal
+  whole-seen : Closed → (s : SawTheEnd run helpers) → s.chair.seen ≡ es
+  whole-seen h s =
+      let part : IsPart parties_of (about_of run items events) es s.chair = all-at (IsPart parties_of (about_of run items events) es) (s.chair ∷ s.after) 0 s.chair
+      (all-parts (IsPart parties_of (about_of run items events) es) s.before (s.chair ∷ s.after) (subst (λ (cs : List (Sitting Event Run)). All (IsPart parties_of (about_of run items events) es) cs) s.is h.helper_parts)).1 refl in
+      saw-all shape (length scripts) workers s.chair.seen es h.valid part.seen h.legal s.left s.closed
+
+  run-known : Closed → IsRunOf m shape scripts workers items events es refused done
+  run-known h = record {
+    run = h.legal;
+    follows = all-follow h;
+    waits = all-heed h;
+    bodies = all-bodies h;
+    within = h.within;
+    event = subst (λ (o : Option Event). IfSome o Refused) (sym h.refused_is)
+        (first-such Refused (callers ++ helpers) (All-append (λ c. IfSome c.kept (λ kept. Refused kept.0)) callers helpers (callers-kept h) (helpers-kept h)));
+    whole = λ is. let s = h.end is in
+        completes shape scripts workers es h.legal (ap (count_by is_leave) (sym (whole-seen h s)) ∙ s.left) (all-follow h);
+    closed = λ is. let s = h.end is in ap (open_after shape) (sym (whole-seen h s)) ∙ s.closed;
+  }
+
+-- a closed run is one of its document
+pub run-closed : (m : Meanings) (run : Run) (scripts : List (List Step)) (items events : ℕ) (es : List Event) (refused : Option Event) (done : Bool) (callers helpers : List (Sitting Event Run))
+    → IsClosed m run scripts items events es refused done callers helpers → IsRunOf m run.shape scripts run.workers items events es refused done
+run-closed m run scripts items events es refused done callers helpers h =
+    let same : run ≡ run_of m run.shape scripts run.workers items events es = (λ i. record { shape = run.shape; callers = h.scripted i; workers = run.workers }) in
+    run-known m run.shape scripts run.workers items events es refused done callers helpers
+    (subst (λ (r : Run). IsClosed m r scripts items events es refused done callers helpers) same h)
+
+-- ---- the parts of a closed run
+
+saw-more : (run : Run) (cs ds : List (Sitting Event Run)) → SawTheEnd run cs → SawTheEnd run (cs ++ ds)
+saw-more run cs ds s = record {
+  before = s.before;
+  after = s.after ++ ds;
+  chair = s.chair;
+  is = ap (λ l. l ++ ds) s.is ∙ append_assoc s.before (s.chair ∷ s.after) ds;
+  left = s.left;
+  closed = s.closed;
+}
+
+module _ {X Y : Type 0} (f g : X → Sitting Event Run) (fb : X → Bool) (h : Y → Sitting Event Run) (hb : Y → Bool) (Post : Y → Type 0) (m : Meanings) (run : Run) (scripts : List (List Step)) (items events : ℕ) where
+  abbrev Caller_at : X → Type 0
+  Caller_at x = IsCaller m run items events (f x) × IsWorker m run items events (g x) (fb x) × FollowsOwn run.shape scripts (f x)
+
+  abbrev Working : Sitting Event Run → Type 0
+  Working c = (busy : Bool) × IsWorker m run items events c busy
+
+  abbrev chairs_of : List X → List Y → List (Sitting Event Run)
+  chairs_of xs ys = map f xs ++ (map h ys ++ map g xs)
+
+  -- a run whose callers and workers were closed
+  pub parts-closed : (es : List Event) (refused : Option Event) (done : Bool) (new xs : List X) (ys : List Y) → IsValid run.shape → run.callers ≡ length scripts → xs ≡ new
+      → All Caller_at new → All (λ y. IsWorker m run items events (h y) (hb y) × Post y) ys → map (λ x. (f x).party) new ≡ callers_of run → map (λ y. (h y).party) ys ++ map (λ x. (g x).party) new ≡ workers_of run
+      → is_run run.shape run.callers run.workers es ≡ true → All (IsPart parties_of (about_of run items events) es) (chairs_of xs ys) → IsWithinLimits items events es → refused ≡ first_kept (chairs_of xs ys)
+      → (done ≡ true → SawTheEnd run (map h ys)) → IsRunOf m run.shape scripts run.workers items events es refused done
+  parts-closed es refused done new xs ys valid scripted same followed worked numbers helpers legal parts within kept end =
+      let at_new : All (IsPart parties_of (about_of run items events) es) (chairs_of new ys) = subst (λ (l : List X). All (IsPart parties_of (about_of run items events) es) (chairs_of l ys)) same parts in
+      let two = all-parts (IsPart parties_of (about_of run items events) es) (map f new) (map h ys ++ map g new) at_new in
+      run-closed m run scripts items events es refused done (map f new) (map h ys ++ map g new) record {
+        valid = valid;
+        scripted = scripted;
+        legal = legal;
+        caller_parts = two.0;
+        helper_parts = two.1;
+        within = within;
+        refused_is = kept ∙ ap (λ l. first_kept (chairs_of l ys)) same;
+        caller_numbers = sym (map-twice f (λ (c : Sitting Event Run). c.party) new) ∙ numbers;
+        helper_numbers =
+            map-append (λ (c : Sitting Event Run). c.party) (map h ys) (map g new)
+            ∙ ((λ i. sym (map-twice h (λ (c : Sitting Event Run). c.party) ys) i ++ sym (map-twice g (λ (c : Sitting Event Run). c.party) new) i) ∙ helpers);
+        followed = All-map (λ c. IsCaller m run items events c × FollowsOwn run.shape scripts c) f new
+            (all-imply Caller_at (λ x. IsCaller m run items events (f x) × FollowsOwn run.shape scripts (f x)) (λ x t. (t.0, t.2)) new followed);
+        worked = All-append Working (map h ys) (map g new)
+            (All-map Working h ys (all-imply (λ y. IsWorker m run items events (h y) (hb y) × Post y) (λ y. Working (h y)) (λ y t. (hb y, t.0)) ys worked))
+            (All-map Working g new (all-imply Caller_at (λ x. Working (g x)) (λ x t. (fb x, t.1)) new followed));
+        end = λ is. saw-more run (map h ys) (map g new) (end is);
+      }

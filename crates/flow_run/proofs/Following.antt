@@ -15,6 +15,7 @@ use Rattle.flow_item.specs.declared.event.Party.TheVariants.{Node, Caller, Worke
 use Rattle.flow_item.specs.Events.{parties_of}
 use Rattle.flow_item.specs.Legal.{takes_part, projection}
 use Rattle.flow_item.specs.Lists.{places}
+use Rattle.flow_item.proofs.Places.{slice_get-below}
 use Rattle.flow_shape.specs.declared.Shape.{Shape}
 use Rattle.flow_shape.specs.declared.Step.{Step}
 use Rattle.flow_shape.specs.declared.Step.TheVariants as T
@@ -25,13 +26,18 @@ use Rattle.flow_line.specs.Values.{Sitting}
 use Rattle.flow_line.proofs.Beginnings.{prefix_snoc}
 use Rattle.flow_book.specs.declared.machine.Run.{Run}
 use Rattle.flow_book.specs.Answers.{kept_first, IsDone, IsHalted, IsKept, IsSame, IsStopped}
-use Rattle.flow_book.specs.Callers.{number_of}
+use Rattle.flow_book.specs.Callers.{number_of, is_caller_of}
 use Rattle.flow_work.specs.Promises.{WaitedAt}
-use Rattle.flow_run.specs.Following.{HasAllOwn, DoesStep, IsOfStep, StopsBy, LeavesOr, IsAt, IsRefusedStep, HasFollowed}
+use Rattle.flow_work.specs.Runs.{is_good_step}
+use Rattle.flow_shape.proofs.Sorting.{all-at}
+use Rattle.flow_machine.specs.Bodies.{Meanings}
+use Rattle.flow_crew.specs.Crew.{IsWorker}
+use Rattle.std.specs.List.{list_all}
+use Rattle.flow_run.specs.Following.{HasAllOwn, DoesStep, IsOfStep, StopsBy, LeavesOr, IsAt, IsRefusedStep, HasFollowed, FollowsOwn}
 
 -- ---- scripts
 
-drop-at : {X : Type 0} (xs : List X) (n : ℕ) (x : X) → slice_get xs n ≡ Some x → drop n xs ≡ x ∷ drop (suc n) xs
+pub drop-at : {X : Type 0} (xs : List X) (n : ℕ) (x : X) → slice_get xs n ≡ Some x → drop n xs ≡ x ∷ drop (suc n) xs
 drop-at [] n x h = cc
 drop-at (y ∷ xs) zero x h = let same : y ≡ x = cc in ap (λ z. z ∷ xs) same
 drop-at (y ∷ xs) (suc n) x h = drop-at xs n x h
@@ -239,3 +245,37 @@ module _ (shape : Shape) (steps : List Step) where
 pub halted-stops : (Meant : Event → Type 0) (c d : Sitting Event Run) (stop : Stop) → IsHalted c Meant d stop → StopsBy Meant c d
 halted-stops Meant c d Limit h = inr h
 halted-stops Meant c d Memory h = inl h
+
+-- a worker that stayed as it was
+pub same-worker : (m : Meanings) (run : Run) (items events : ℕ) (c d : Sitting Event Run) (b b' : Bool) → (d ≡ c) × (b' ≡ b) → IsWorker m run items events c b → IsWorker m run items events d b'
+same-worker m run items events c d b b' same w =
+    subst (λ (x : Bool). IsWorker m run items events d x) (sym same.1) (subst (λ (x : Sitting Event Run). IsWorker m run items events x b) (sym same.0) w)
+
+-- a step that a good script has
+pub good-at : (shape : Shape) (steps : List Step) (k : ℕ) (s : Step) → list_all (is_good_step shape) steps ≡ true → slice_get steps k ≡ Some s → is_good_step shape s ≡ true
+good-at shape steps k s good at = all-at (is_good_step shape) steps k s good at
+
+-- a place within a list has a member
+pub never-missing : {X : Type 0} (xs : List X) (k : ℕ) → k < length xs → slice_get xs k ≡ None → ⊥
+never-missing {X} xs k below none =
+    let found = slice_get-below xs k below in
+    let clash : ◌≡◌ {A = Option X} None (Some found.0) = sym none ∙ found.1 in
+    cc
+
+-- ---- parties
+
+pub caller-is : (p : Party) (n : ℕ) → p ≡ Caller n → p ≡ Caller (number_of p)
+caller-is p n h = h ∙ ap (λ (q : Party). Caller (number_of q)) (sym h)
+
+pub caller-below : (callers : ℕ) (p : Party) (n : ℕ) → p ≡ Caller n → is_caller_of callers p ≡ true → n < callers
+caller-below callers p n h c = ltb-true n callers (ap (is_caller_of callers) (sym h) ∙ c)
+
+-- what follows the script of the caller's number follows the caller's own
+pub own-script : (shape : Shape) (scripts : List (List Step)) (steps : List Step) (n : ℕ) (p : Party) (d : Sitting Event Run) → p ≡ Caller n → d.party ≡ p → slice_get scripts n ≡ Some steps → HasFollowed shape steps d → FollowsOwn shape scripts d
+own-script shape scripts steps n p d party same at h others there =
+    let number : number_of d.party ≡ n = ap number_of (same ∙ party) in
+    let is : steps ≡ others = same_Some steps others (sym at ∙ (ap (slice_get scripts) (sym number) ∙ there)) in
+    subst (λ (ss : List Step). HasFollowed shape ss d) is h
+
+pub next-at : (shape : Shape) (steps : List Step) (k : ℕ) (d : Sitting Event Run) → IsAt shape steps (suc k) d → IsAt shape steps (k + 1) d
+next-at shape steps k d h = let next : suc k ≡ k + 1 = omega arith in subst (λ (n : ℕ). IsAt shape steps n d) next h
