@@ -5,14 +5,18 @@
 use flow_body::{
     Add, Builtins, CountTo, Echo, FailMemory, Len, Mul, Neg, Pair, Part, SplitEven, builtin_shelf,
 };
-use flow_cli::{plain_top, tell_no_memory};
+use flow_cli::{flow_top, plain_top, tell_no_memory};
 use flow_doc::Kept;
-use flow_io::{Sink, StdSink, StdSource};
+use flow_io::{Sink, Source, StdSink, StdSource};
 use flow_item::NoMemory;
 use flow_print::Status;
+use flow_run::{Builtin, NoGate};
+use std::alloc::Global;
 use std::env;
 use std::io::ErrorKind;
 use std::process::ExitCode;
+use std::sync::Wait;
+use std::thread::Threads;
 
 /// The words after the program's name. Arguments that are no text are no words of any command.
 fn words(rt: &HostRuntime) -> Result<Vec<String>, NoMemory> {
@@ -28,10 +32,22 @@ fn words(rt: &HostRuntime) -> Result<Vec<String>, NoMemory> {
     }
 }
 
+/// Whether the first word is `run`.
+fn names_run(words: &[String]) -> bool {
+    match words.first() {
+        Some(word) => word.as_str() == "run",
+        None => false,
+    }
+}
+
 /// Serves the words with the built-in bodies.
-fn serve<K: Sink>(rt: &HostRuntime, sink: &mut K) -> Result<Status, NoMemory> {
-    let alloc = rt.alloc();
-    let words = words(rt)?;
+fn serve<R: Threads + Wait + Sync, S: Source, K: Sink>(
+    rt: &R,
+    alloc: Global,
+    words: &[String],
+    source: &mut S,
+    sink: &mut K,
+) -> Result<Status, NoMemory> {
     let bodies = Builtins {
         add: Box::new(alloc, Add)?,
         mul: Box::new(alloc, Mul)?,
@@ -45,28 +61,32 @@ fn serve<K: Sink>(rt: &HostRuntime, sink: &mut K) -> Result<Status, NoMemory> {
         fail_memory: Box::new(alloc, FailMemory)?,
     };
     let shelf = builtin_shelf(alloc, bodies)?;
+    let mut kept = Kept::new(alloc);
+    if names_run(words) {
+        Ok(flow_top(
+            rt, alloc, words, source, sink, &shelf, &Builtin, &NoGate, &mut kept,
+        ))
+    } else {
+        Ok(plain_top(alloc, words, source, sink, &shelf, &mut kept))
+    }
+}
+
+fn main(rt: HostRuntime) -> ExitCode {
+    let alloc = rt.alloc();
     let mut source = StdSource {
         inner: rt.stdin(),
         faults: 0,
     };
-    let mut kept = Kept::new(alloc);
-    Ok(plain_top(
-        alloc,
-        words.as_slice(),
-        &mut source,
-        sink,
-        &shelf,
-        &mut kept,
-    ))
-}
-
-fn main(rt: HostRuntime) -> ExitCode {
     let mut sink = StdSink {
         inner: rt.stdout(),
         faults: 0,
         sent: true,
     };
-    let status = match serve(&rt, &mut sink) {
+    let served = match words(&rt) {
+        Ok(words) => serve(&rt, alloc, words.as_slice(), &mut source, &mut sink),
+        Err(NoMemory) => Err(NoMemory),
+    };
+    let status = match served {
         Ok(status) => status,
         Err(NoMemory) => tell_no_memory(&mut sink),
     };

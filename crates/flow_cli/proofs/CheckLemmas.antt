@@ -158,12 +158,12 @@ module _ (shelf : List (List ℕ)) (meanings : Meanings) (asked : Option ⊤) (b
 
   due_refused : (o : Option ⊤) (fault : DocFault) → is_some o ≡ true → IsRefused shelf before after fault → IsCheckDue shelf o before (fault_status fault)
   due_refused None fault some r = cc
-  due_refused (Some x) fault some r = by_bytes before (Err fault) (λ all e. refused_all shelf meanings None before after kept all fault (subst (λ (b : Option (List ℕ)). IsRefused shelf b after fault) e r))
+  due_refused (Some x) fault some r = by_bytes before (Err fault) (λ all e. refused_all shelf None before after kept all fault (subst (λ (b : Option (List ℕ)). IsRefused shelf b after fault) e r))
 
   due_kept : (o : Option ⊤) (d : Option Doc) (doc : Doc) → is_some o ≡ true → d ≡ Some doc → IfSome d (λ x. IsRead shelf before after (Ok x)) → IsCheckDue shelf o before S.Done
   due_kept None d doc some is read = cc
   due_kept (Some x) None doc some is read = cc
-  due_kept (Some x) (Some d) doc some is read = by_bytes before (Ok d) (λ all e. let s : IsRead shelf (Some all) after (Ok d) = subst (λ (b : Option (List ℕ)). IsRead shelf b after (Ok d)) e read in all_read shelf meanings None before after kept all s.bytes (Ok d) s.taken s.whole s.is)
+  due_kept (Some x) (Some d) doc some is read = by_bytes before (Ok d) (λ all e. let s : IsRead shelf (Some all) after (Ok d) = subst (λ (b : Option (List ℕ)). IsRead shelf b after (Ok d)) e read in all_read shelf None before after kept all s.bytes (Ok d) s.taken s.whole s.is)
 
   due_ending : (ending : Ending) → IsCheckEnding shelf meanings asked before after kept ending → IfSome kept.doc (λ doc. IsRead shelf before after (Ok doc)) → (ending_status ending ≡ S.Read → ⊥) → (ending_status ending ≡ S.Memory) ⊎ IsCheckDue shelf asked before (ending_status ending)
   due_ending bad_words is doc never = inr (rw is refl)

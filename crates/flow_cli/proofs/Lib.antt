@@ -5,3 +5,6 @@ pub mod PlainLemmas
 mod GenLemmas
 mod CheckLemmas
 mod MeaningLemmas
+mod RunWordLemmas
+mod ThreadLemmas
+pub mod ShelfLengths

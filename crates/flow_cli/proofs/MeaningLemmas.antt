@@ -26,20 +26,17 @@ use Rattle.flow_cli.specs.Steps.{IsAnswer}
 use Rattle.flow_cli.specs.Gen.{RunsNumber, KeepsAsked, KeepsGenerated, IsGenAnswer}
 use Rattle.flow_gen.proofs.Fitting.{found_fits}
 use Rattle.flow_cli.specs.Checked.{ShowsMeaning}
+use Rattle.flow_cli.proofs.PlainLemmas.{same_doc}
 
 -- a run of a determinate document that was done shows its meaning
-pub shows_meaning : (meanings : Meanings) (bodies : ℕ) (doc : Doc) (es : List Event) → doc_fits bodies doc ≡ true → is_run doc.shape (length doc.scripts) 1 es ≡ true → bodies_kept meanings doc.shape es ≡ true → IsDone doc es →
+pub shows_meaning : (meanings : Meanings) (bodies workers : ℕ) (doc : Doc) (es : List Event) → doc_fits bodies doc ≡ true → is_run doc.shape (length doc.scripts) workers es ≡ true → bodies_kept meanings doc.shape es ≡ true → IsDone doc es →
     SinglesAnswerOnce meanings → IsDeterminate meanings doc → sinks_section doc.names (sink_pairs doc.shape es) doc.sinks ≡ meaning_section meanings doc
-shows_meaning meanings bodies doc es fits run kept done singles determined =
-    let followed : follows meanings doc 1 es ≡ true = both_true (both_true run (kept_whole doc.shape doc.scripts es done.scripts)) kept in
-    (one-result meanings doc bodies 1 es singles fits determined followed (done_whole doc.shape doc.scripts es done.scripts) done.settled).0
-
-same_doc : (o : Option Doc) (d e : Doc) → o ≡ Some d → o ≡ Some e → d ≡ e
-same_doc None d e p q = cc
-same_doc (Some x) d e p q = cc
+shows_meaning meanings bodies workers doc es fits run kept done singles determined =
+    let followed : follows meanings doc workers es ≡ true = both_true (both_true run (kept_whole doc.shape doc.scripts es done.scripts)) kept in
+    (one-result meanings doc bodies workers es singles fits determined followed (done_whole doc.shape doc.scripts es done.scripts) done.settled).0
 
 -- what holds of the document that is there
-there : (Holds : Doc → Type 0) (o : Option Doc) (d : Doc) → o ≡ Some d → IfSome o Holds → Holds d
+pub there : (Holds : Doc → Type 0) (o : Option Doc) (d : Doc) → o ≡ Some d → IfSome o Holds → Holds d
 there Holds None d p h = cc
 there Holds (Some x) d p h = let e : x ≡ d = cc in subst Holds e h
 
@@ -51,7 +48,7 @@ plain_shows shelf meanings options before after kept status old new answer same 
     let alike : done.doc ≡ doc = same_doc kept.doc done.doc doc done.is is in
     let whole : IsDone doc kept.journal = subst (λ (d : Doc). IsDone d kept.journal) alike done.done in
     let read = there (λ (d : Doc). IsRead shelf before after (Ok d)) kept.doc doc is answer.document.read in
-    shows_meaning meanings (length shelf) doc kept.journal (read_fits OFFERED shelf read.bytes doc read.is) legal.legal legal.bodies whole singles determined
+    shows_meaning meanings (length shelf) 1 doc kept.journal (read_fits OFFERED shelf read.bytes doc read.is) legal.legal legal.bodies whole singles determined
 
 pub unlike_none : (o : Option Doc) (doc : Doc) → o ≡ None → o ≡ Some doc → ⊥
 unlike_none None doc p q = cc
@@ -72,7 +69,7 @@ gen_shows shelf meanings asked kept status old new answer same = by_asked asked 
         let alike : has.doc ≡ doc = same_doc kept.doc has.doc doc has.is at in
         let whole : IsDone doc kept.journal = subst (λ (d : Doc). IsDone d kept.journal) alike has.done in
         let runs = there (λ (d : Doc). RunsNumber shelf meanings g.count d kept.journal) kept.doc doc at keeps.document in
-        shows_meaning meanings (length shelf) doc kept.journal (found_fits shelf g.count doc runs.is) runs.run.legal runs.run.bodies whole singles determined
+        shows_meaning meanings (length shelf) 1 doc kept.journal (found_fits shelf g.count doc runs.is) runs.run.legal runs.run.bodies whole singles determined
 
     by_asked : (o : Option Generating) → asked ≡ o → KeepsGenerated shelf meanings o kept → ShowsMeaning meanings kept
     by_asked None is keeps = none_shows meanings kept keeps.document

@@ -10,7 +10,7 @@ use Rattle.flow_shape.specs.declared.Kind.{Kind}
 use Rattle.flow_shape.specs.declared.Kind.TheVariants as K
 use Rattle.flow_shape.specs.declared.ShapeFault.{ShapeFault}
 use Rattle.flow_shape.specs.Rules.{first_fault, IsValid}
-use Rattle.flow_machine.specs.Machine.{is_legal}
+use Rattle.flow_machine.specs.Machine.{is_legal, is_run}
 use Rattle.flow_machine.specs.Bodies.{Meanings}
 use Rattle.flow_node.specs.Built.{is_built}
 use Rattle.flow_node.specs.Readied.{Readied}
@@ -114,11 +114,11 @@ no_fault None h = refl
 no_fault (Some fault) h = cc
 
 -- what a run keeps may be printed
-pub may_print : (meanings : Meanings) (bodies : ℕ) (options : Options) (doc : Doc) (kept : Kept) → doc_fits bodies doc ≡ true → births kept.journal ≤ 2 ^ 63 → IsRun meanings options doc kept → MayBePrinted kept.doc kept.journal
-may_print meanings bodies options doc kept fits few run =
+pub may_print : (bodies workers : ℕ) (doc : Doc) (kept : Kept) → doc_fits bodies doc ≡ true → births kept.journal ≤ 2 ^ 63 → kept.doc ≡ Some doc → is_run doc.shape (length doc.scripts) workers kept.journal ≡ true → MayBePrinted kept.doc kept.journal
+may_print bodies workers doc kept fits few document run =
     let valid : IsValid doc.shape = no_fault (first_fault doc.shape) (and_left _ _ (and_left _ _ (and_left _ _ (and_left _ _ (and_left _ _ fits))))) in
-    let legal : is_legal doc.shape kept.journal ≡ true = and_left (is_legal doc.shape kept.journal) _ run.legal.legal in
-    rw run.document (valid, legal, few)
+    let legal : is_legal doc.shape kept.journal ≡ true = and_left (is_legal doc.shape kept.journal) _ run in
+    rw document (valid, legal, few)
 
 -- want of memory has one line, whoever tells it
 fault_memory : (status : Status) (old new : Option (List ℕ)) → IsWritten (bad_document D.Memory) status old new → IsWritten no_memory status old new
@@ -151,7 +151,7 @@ status_of ending status old new h = inr (inr h.0)
 
 -- ---- causes
 
-module _ (shelf : List (List ℕ)) (meanings : Meanings) (asked : Option Options) (before after : Option (List ℕ)) (kept : Kept) where
+module _ (shelf : List (List ℕ)) (asked : Option Options) (before after : Option (List ℕ)) (kept : Kept) where
   by_run : (doc : Option Doc) (refused : Option Event) (status : Status) → kept.doc ≡ doc → is_some doc ≡ true → kept.refused ≡ refused → status ≡ run_status refused → (status ≡ S.Done → HasDone kept) → IsCaused shelf status asked before after kept
   by_run None refused status at some is same done = cc
   by_run (Some doc) None status at some is same done = rw same (done same)
@@ -169,13 +169,13 @@ module _ (shelf : List (List ℕ)) (meanings : Meanings) (asked : Option Options
   cause_of (bad_line k) is done = absurd is
   cause_of (output status text) is done = by_run kept.doc kept.refused status refl is.2 refl is.3 done
 
-  pub causes : (status : Status) (old new : Option (List ℕ)) → IsAnswer shelf meanings asked before after kept status old new → IsCaused shelf status asked before after kept
-  causes status old new a = by_status (status_of a.printed.ending status old new a.printed.written)
+  pub causes : (status : Status) (old new : Option (List ℕ)) → IsPrinted shelf asked before after kept status old new → (status ≡ S.Done → HasDone kept) → IsCaused shelf status asked before after kept
+  causes status old new printed done = by_status (status_of printed.ending status old new printed.written)
     where
-      by_status : (status ≡ S.Write) ⊎ ((status ≡ S.Memory) ⊎ (status ≡ ending_status a.printed.ending)) → IsCaused shelf status asked before after kept
+      by_status : (status ≡ S.Write) ⊎ ((status ≡ S.Memory) ⊎ (status ≡ ending_status printed.ending)) → IsCaused shelf status asked before after kept
       by_status (inl e) = rw e tt
       by_status (inr (inl e)) = rw e tt
-      by_status (inr (inr e)) = rw e (cause_of a.printed.ending a.printed.is (λ same. a.done (e ∙ same)))
+      by_status (inr (inr e)) = rw e (cause_of printed.ending printed.is (λ same. done (e ∙ same)))
 
   -- ---- the other way round
 
@@ -228,19 +228,19 @@ module _ (shelf : List (List ℕ)) (meanings : Meanings) (asked : Option Options
   due_ending (bad_line k) is doc never = absurd is
   due_ending (output status text) is doc never = inr (rw (is.1, is.3) (due_output is.0 kept.doc is.2 doc))
 
-  pub completes : (status : Status) (old new : Option (List ℕ)) → IsAnswer shelf meanings asked before after kept status old new → (status ≡ S.Read → ⊥) → (status ≡ S.Write → ⊥) → (status ≡ S.Memory) ⊎ IsDue shelf asked before status
-  completes status old new a reads writes = by_status (status_of a.printed.ending status old new a.printed.written)
+  pub completes : (status : Status) (old new : Option (List ℕ)) → IsPrinted shelf asked before after kept status old new → KeepsDocument shelf asked before after kept → (status ≡ S.Read → ⊥) → (status ≡ S.Write → ⊥) → (status ≡ S.Memory) ⊎ IsDue shelf asked before status
+  completes status old new printed keeps reads writes = by_status (status_of printed.ending status old new printed.written)
     where
-      by_status : (status ≡ S.Write) ⊎ ((status ≡ S.Memory) ⊎ (status ≡ ending_status a.printed.ending)) → (status ≡ S.Memory) ⊎ IsDue shelf asked before status
+      by_status : (status ≡ S.Write) ⊎ ((status ≡ S.Memory) ⊎ (status ≡ ending_status printed.ending)) → (status ≡ S.Memory) ⊎ IsDue shelf asked before status
       by_status (inl e) = absurd (writes e)
       by_status (inr (inl e)) = inl e
-      by_status (inr (inr e)) = rw e (due_ending a.printed.ending a.printed.is a.document.read (λ same. reads (e ∙ same)))
+      by_status (inr (inr e)) = rw e (due_ending printed.ending printed.is keeps.read (λ same. reads (e ∙ same)))
 
   -- ---- what is left
 
   -- without a document nothing was run
-  pub answers_without : (status : Status) (old new : Option (List ℕ)) → kept.doc ≡ None → IsFresh kept → IsPrinted shelf asked before after kept status old new → IsAnswer shelf meanings asked before after kept status old new
-  answers_without status old new none fresh printed = record {
+  pub answers_without : (meanings : Meanings) (status : Status) (old new : Option (List ℕ)) → kept.doc ≡ None → IsFresh kept → IsPrinted shelf asked before after kept status old new → IsAnswer shelf meanings asked before after kept status old new
+  answers_without meanings status old new none fresh printed = record {
     document = record {
       read = (rw none tt);
       line = λ some. absurd (unlike kept.doc none some);
@@ -283,15 +283,15 @@ module _ (shelf : List (List ℕ)) (meanings : Meanings) (asked : Option Options
 
 -- words that are no line
 pub answers_words : (shelf : List (List ℕ)) (meanings : Meanings) (before : Option (List ℕ)) (asked : Option Options) (kept : Kept) (status : Status) (old new : Option (List ℕ)) → asked ≡ None → kept.doc ≡ None → IsFresh kept → IsSaid words_text S.Words status old new → IsAnswer shelf meanings asked before before kept status old new
-answers_words shelf meanings before asked kept status old new bad none fresh said = answers_without shelf meanings asked before before kept status old new none fresh (record { ending = bad_words; is = bad; written = says_words status old new said })
+answers_words shelf meanings before asked kept status old new bad none fresh said = answers_without shelf asked before before kept meanings status old new none fresh (record { ending = bad_words; is = bad; written = says_words status old new said })
 
 -- memory ran out before anything was read
 pub answers_memory : (shelf : List (List ℕ)) (meanings : Meanings) (before : Option (List ℕ)) (asked : Option Options) (kept : Kept) (status : Status) (old new : Option (List ℕ)) → kept.doc ≡ None → IsFresh kept → IsSaid memory_text S.Memory status old new → IsAnswer shelf meanings asked before before kept status old new
-answers_memory shelf meanings before asked kept status old new none fresh said = answers_without shelf meanings asked before before kept status old new none fresh (record { ending = no_memory; is = tt; written = says_memory status old new said })
+answers_memory shelf meanings before asked kept status old new none fresh said = answers_without shelf asked before before kept meanings status old new none fresh (record { ending = no_memory; is = tt; written = says_memory status old new said })
 
 -- the source gave no document
 pub answers_input : (shelf : List (List ℕ)) (meanings : Meanings) (before after : Option (List ℕ)) (options : Options) (fault : InputFault) (kept : Kept) (status : Status) (old new : Option (List ℕ)) → Reads shelf before after (Err fault) → kept.doc ≡ None → IsFresh kept → IsEnded (fault_ending fault) status old new → IsAnswer shelf meanings (Some options) before after kept status old new
-answers_input shelf meanings before after options fault kept status old new reads none fresh ended = answers_without shelf meanings (Some options) before after kept status old new none fresh (record { ending = ended.last; is = by_last ended.is; written = ended.written })
+answers_input shelf meanings before after options fault kept status old new reads none fresh ended = answers_without shelf (Some options) before after kept meanings status old new none fresh (record { ending = ended.last; is = by_last ended.is; written = ended.written })
   where
     is_of : (f : InputFault) → Reads shelf before after (Err f) → IsEnding shelf (Some options) before after kept (fault_ending f)
     is_of I.Unread r = refl
@@ -305,41 +305,49 @@ answers_input shelf meanings before after options fault kept status old new read
     by_last (inl same) = rw same (is_of fault reads)
     by_last (inr same) = rw same tt
 
--- a document was run
-pub answers_run : (shelf : List (List ℕ)) (meanings : Meanings) (before after : Option (List ℕ)) (options : Options) (doc : Doc) (kept : Kept) (status : Status) (old new : Option (List ℕ)) → IsRead shelf before after (Ok doc) → IsRun meanings options doc kept → IsEnded (report_ending options kept) status old new → (status ≡ S.Done → IsWhole doc kept) → IsAnswer shelf meanings (Some options) before after kept status old new
-answers_run shelf meanings before after options doc kept status old new read run ended whole = record {
-  document = record {
-    read = rw run.document read;
-    line = λ some. refl;
-    empty = λ none. absurd (unlike kept.doc run.document none);
-    live = run.live;
-  };
-  legal = λ o d a e. of_run (IsLegalRun meanings) o d a e run.legal;
-  refused = λ o d a e. of_run (IsRefusedLast meanings kept.refused) o d a e run.refused;
-  scripts = λ o d a e. of_run FollowsCallers o d a e run.scripts;
-  waits = λ o d a e. of_run HeedsCallers o d a e run.waits;
-  throughout = λ o d a e. of_run AgreesThroughout o d a e run.throughout;
-  printed = record { ending = ended.last; is = by_last ended.is; written = ended.written };
-  done = λ same. record { doc = doc; is = run.document; none = (whole same).none; done = (whole same).done };
+-- what is kept of a document that was run
+pub keeps_read : (shelf : List (List ℕ)) (before after : Option (List ℕ)) (options : Options) (doc : Doc) (kept : Kept) → IsRead shelf before after (Ok doc) → kept.doc ≡ Some doc → kept.live ≡ [] → KeepsDocument shelf (Some options) before after kept
+keeps_read shelf before after options doc kept read document live = record {
+  read = rw document read;
+  line = λ some. refl;
+  empty = λ none. absurd (unlike kept.doc document none);
+  live = live;
 }
   where
     unlike : (o : Option Doc) → o ≡ Some doc → o ≡ None → ⊥
     unlike None s n = cc
     unlike (Some d) s n = cc
 
-    same_doc : (o : Option Doc) (d : Doc) → o ≡ Some doc → o ≡ Some d → doc ≡ d
-    same_doc None d s e = cc
-    same_doc (Some x) d s e = cc
+-- and what is printed of it
+pub prints_run : (shelf : List (List ℕ)) (before after : Option (List ℕ)) (options : Options) (doc : Doc) (kept : Kept) (status : Status) (old new : Option (List ℕ)) → kept.doc ≡ Some doc → IsEnded (report_ending options kept) status old new → IsPrinted shelf (Some options) before after kept status old new
+prints_run shelf before after options doc kept status old new document ended = record { ending = ended.last; is = by_last ended.is; written = ended.written }
+  where
+    by_last : (ended.last ≡ report_ending options kept) ⊎ (ended.last ≡ no_memory) → IsEnding shelf (Some options) before after kept ended.last
+    by_last (inl same) = rw same (options, refl, (rw document refl), refl, refl)
+    by_last (inr same) = rw same tt
 
+pub same_doc : (o : Option Doc) (d e : Doc) → o ≡ Some d → o ≡ Some e → d ≡ e
+same_doc None d e p q = cc
+same_doc (Some x) d e p q = cc
+
+-- a document was run
+pub answers_run : (shelf : List (List ℕ)) (meanings : Meanings) (before after : Option (List ℕ)) (options : Options) (doc : Doc) (kept : Kept) (status : Status) (old new : Option (List ℕ)) → IsRead shelf before after (Ok doc) → IsRun meanings options doc kept → IsEnded (report_ending options kept) status old new → (status ≡ S.Done → IsWhole doc kept) → IsAnswer shelf meanings (Some options) before after kept status old new
+answers_run shelf meanings before after options doc kept status old new read run ended whole = record {
+  document = keeps_read shelf before after options doc kept read run.document run.live;
+  legal = λ o d a e. of_run (IsLegalRun meanings) o d a e run.legal;
+  refused = λ o d a e. of_run (IsRefusedLast meanings kept.refused) o d a e run.refused;
+  scripts = λ o d a e. of_run FollowsCallers o d a e run.scripts;
+  waits = λ o d a e. of_run HeedsCallers o d a e run.waits;
+  throughout = λ o d a e. of_run AgreesThroughout o d a e run.throughout;
+  printed = prints_run shelf before after options doc kept status old new run.document ended;
+  done = λ same. record { doc = doc; is = run.document; none = (whole same).none; done = (whole same).done };
+}
+  where
     same_options : (o : Options) → Some options ≡ Some o → options ≡ o
     same_options o e = cc
 
     of_run : (Holds : Options → Doc → List Event → Type 0) (o : Options) (d : Doc) → Some options ≡ Some o → kept.doc ≡ Some d → Holds options doc kept.journal → Holds o d kept.journal
-    of_run Holds o d a e h = subst (λ (x : Doc). Holds o x kept.journal) (same_doc kept.doc d run.document e) (subst (λ (x : Options). Holds x doc kept.journal) (same_options o a) h)
-
-    by_last : (ended.last ≡ report_ending options kept) ⊎ (ended.last ≡ no_memory) → IsEnding shelf (Some options) before after kept ended.last
-    by_last (inl same) = rw same (options, refl, (rw run.document refl), refl, refl)
-    by_last (inr same) = rw same tt
+    of_run Holds o d a e h = subst (λ (x : Doc). Holds o x kept.journal) (same_doc kept.doc doc d run.document e) (subst (λ (x : Options). Holds x doc kept.journal) (same_options o a) h)
 
 -- nodes that were brought in print order are those of the document as before
 pub are_arranged : (doc : Option Doc) (es : List Event) (old new : List Readied) → map node_of new ≡ map node_of old → AreStates doc es old → AreStates doc es new

@@ -24,7 +24,7 @@ use flow_work::{Ending, run_plain_with_nodes};
 use std::alloc::Global;
 
 /// The most events of a run.
-const MOST_EVENTS: u64 = 32_000_000;
+pub(crate) const MOST_EVENTS: u64 = 32_000_000;
 
 // Runs a document, and keeps it with what it came to.
 fn run_kept(alloc: Global, options: Options, doc: Doc, shelf: &Shelf, kept: &mut Kept) -> Ending
@@ -75,8 +75,8 @@ fn print_kept<K: Sink>(
     }
 }
 
-// Writes the report of what is kept, with the items of the nodes brought in print order first.
-fn print_arranged<K: Sink>(
+/// Writes the report of what is kept, with the items of the nodes brought in print order first.
+pub(crate) fn print_arranged<K: Sink>(
     alloc: Global,
     kept: &Kept,
     mut nodes: Nodes,

@@ -1,4 +1,5 @@
-ghost use Rattle.std.specs.Prelude.{◌≡◌, IfOk, None, true, map, [], ◌∷◌};
+ghost use Rattle.std.specs.Prelude.{◌≡◌, IfOk, None, true, length, map, [], ◌∷◌};
+ghost use Rattle.flow_gen.specs.Generated.{has_bodies};
 ghost use Rattle.flow_print.specs.Report.{MayBePrinted};
 ghost use Rattle.flow_print.specs.Replayed.{IsBuilt};
 
@@ -173,7 +174,7 @@ const WORDS: [&str; 31] = [
     "plain --items 5 --journal --items=5",
 ];
 
-fn words_of(alloc: Global, line: &str) -> Result<Vec<String>, Fail> {
+pub(crate) fn words_of(alloc: Global, line: &str) -> Result<Vec<String>, Fail> {
     let mut words = Vec::new(alloc);
     for word in line.split_whitespace() {
         words.push(String::from_str(alloc, word)?)?;
@@ -201,13 +202,11 @@ pub(crate) fn sink(alloc: Global) -> MemSink {
     }
 }
 
-// What the words come to, with the shelf of the built-in bodies.
-fn serve(
-    alloc: Global,
-    words: &[String],
-    source: &mut MemSource,
-    sink: &mut MemSink,
-) -> Result<(Status, Kept), NoMemory> {
+// The shelf of the built-in bodies.
+pub(crate) fn built_in_shelf(alloc: Global) -> Result<Shelf, NoMemory>
+    ensures names { IfOk result (λ shelf. has_bodies (map (λ b. b.name) shelf.bodies.items) ≡ true) }
+    ensures count { IfOk result (λ shelf. length shelf.bodies.items ≡ 10) }
+{
     let bodies = Builtins {
         add: Box::new(alloc, Add)?,
         mul: Box::new(alloc, Mul)?,
@@ -221,6 +220,17 @@ fn serve(
         fail_memory: Box::new(alloc, FailMemory)?,
     };
     let shelf = builtin_shelf(alloc, bodies)?;
+    Ok(shelf)
+}
+
+// What the words come to, with the shelf of the built-in bodies.
+fn serve(
+    alloc: Global,
+    words: &[String],
+    source: &mut MemSource,
+    sink: &mut MemSink,
+) -> Result<(Status, Kept), NoMemory> {
+    let shelf = built_in_shelf(alloc)?;
     let mut kept = Kept::new(alloc);
     let status = plain_top(alloc, words, source, sink, &shelf, &mut kept);
     Ok((status, kept))

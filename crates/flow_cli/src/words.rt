@@ -10,7 +10,7 @@ use flow_item::NoMemory;
 use std::alloc::{AllocError, Global};
 
 /// The most items that a run may be told to bear.
-const MOST_ITEMS: u64 = 2_000_000;
+pub(crate) const MOST_ITEMS: u64 = 2_000_000;
 
 /// The items that a run may bear where no number is told.
 const USUAL_ITEMS: u64 = 1_000_000;
@@ -121,7 +121,7 @@ fn items_of(text: &str) -> u64
     }
 }
 
-fn items_in(matches: &ArgMatches<'_>) -> u64
+pub(crate) fn items_in(matches: &ArgMatches<'_>) -> u64
     ensures { result ≡ items_in (rows_of (found_of matches.now)) }
 {
     match matches.get_str("items") {
@@ -130,7 +130,7 @@ fn items_in(matches: &ArgMatches<'_>) -> u64
     }
 }
 
-fn is_set(matches: &ArgMatches<'_>, id: &str) -> bool
+pub(crate) fn is_set(matches: &ArgMatches<'_>, id: &str) -> bool
     ensures { result ≡ is_set id.now (rows_of (found_of matches.now)) }
 {
     match matches.get_str(id) {

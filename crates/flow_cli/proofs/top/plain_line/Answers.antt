@@ -32,12 +32,12 @@ returns-in-Ok-Some-clause-throughout g c =
 pub returns-in-Ok-Some-clause-cause : goal.returns-in-Ok-Some-clause-cause
 returns-in-Ok-Some-clause-cause g c =
     let asked : plain_options (map string_bytes c.args.words.now) ≡ Some c.in-Ok-Some.options = search rules in
-    rw asked (causes _ _ _ _ _ _ _ _ _ c.run_line.ensures.answer)
+    rw asked (causes _ _ _ _ _ _ _ _ c.run_line.ensures.answer.printed c.run_line.ensures.answer.done)
 
 pub returns-in-Ok-Some-clause-complete : goal.returns-in-Ok-Some-clause-complete
 returns-in-Ok-Some-clause-complete g c = λ source sink.
     let asked : plain_options (map string_bytes c.args.words.now) ≡ Some c.in-Ok-Some.options = search rules in
-    rw asked (completes _ _ _ _ _ _ _ _ _ c.run_line.ensures.answer (λ e. source (c.run_line.ensures.read e)) (λ e. sink (c.run_line.ensures.write e)))
+    rw asked (completes _ _ _ _ _ _ _ _ c.run_line.ensures.answer.printed c.run_line.ensures.answer.document (λ e. source (c.run_line.ensures.read e)) (λ e. sink (c.run_line.ensures.write e)))
 
 pub returns-in-Ok-Some-clause-meaning : goal.returns-in-Ok-Some-clause-meaning
 returns-in-Ok-Some-clause-meaning g c = plain_shows _ _ _ _ _ _ _ _ _ c.run_line.ensures.answer
