@@ -1,6 +1,8 @@
 -- What the bodies that a party ran have to do with their meanings.
-use Rattle.std.specs.Prelude.{◌≡◌, Bool, true, if◌then◌else◌, List, [], ◌∷◌, ◌++◌}
+use Rattle.std.specs.Prelude.{◌≡◌, ℕ, Bool, true, if◌then◌else◌, List, [], ◌∷◌, ◌++◌}
+use Rattle.std.proofs.Common.{ap, ◌∙◌}
 use mathlib.Core.List.{IsPrefix}
+use Rattle.flow_item.specs.declared.val.Val.{Val}
 use Rattle.flow_item.specs.declared.item.Item.{Item}
 use Rattle.flow_item.specs.declared.item.Msg.{Msg}
 use Rattle.flow_item.specs.declared.event.Event.{Event}
@@ -10,10 +12,20 @@ use Rattle.flow_item.specs.Legal.{projection, takes_part}
 use Rattle.flow_item.specs.Values.{same_msgs}
 use Rattle.flow_shape.specs.declared.Shape.{Shape}
 use Rattle.flow_machine.specs.Bodies.{Meanings, body_kept}
+use Rattle.flow_body.specs.Builtin.{meanings_of, builtin_bodies}
+use Rattle.flow_body.specs.Single.{is_single_answer, one-single}
+use Rattle.flow_body.proofs.Singles.{singles_answer}
 use Rattle.flow_line.specs.Values.{Sitting}
 use Rattle.flow_book.specs.declared.machine.Run.{Run}
 use Rattle.flow_book.specs.declared.job.JobBody.{JobBody}
 use Rattle.flow_book.specs.declared.job.JobBody.TheVariants as J
+
+-- a body that is pure and single answers one message, on port 0 and with the item's tag
+abbrev pub AnswersOnce : Meanings → Type 0
+AnswersOnce m = (body : ℕ) → m.is_pure body ≡ true → m.is_single body ≡ true → (arg : Val) (tag : ℕ) (v : Val) → is_single_answer tag (m.out body arg tag v) ≡ true
+
+pub builtin-answers-once : AnswersOnce (meanings_of builtin_bodies)
+builtin-answers-once body pure single arg tag v = ap (is_single_answer tag) (singles_answer body pure single arg tag v).1 ∙ one-single tag (singles_answer body pure single arg tag v).0
 
 -- whether the messages are those of the job's body for the item, where it is pure
 abbrev pub answers_job : Meanings → JobBody → Item → List Msg → Bool

@@ -24,6 +24,11 @@ pub trait Bodies: Sync {
         requires { body < count self.now }
         ensures { (meanings self.now).is_pure body ≡ true
             → IfOk result (λ outs. outs ≡ (meanings self.now).out body arg.now item.now.tag item.now.val) };
+
+    ghost use Rattle.flow_crew.specs.Bodies.{AnswersOnce};
+
+    // a body that is pure and single answers one message, on port 0 and with the item's tag
+    ghost answers_once: { (s : Self) → AnswersOnce (meanings s) };
 }
 
 /// The built-in bodies, by their numbers on their shelf.
@@ -36,6 +41,10 @@ impl Bodies for Builtin {
     ghost count = { λ b. 10 };
 
     ghost meanings = { λ b. meanings_of builtin_bodies };
+
+    ghost use Rattle.flow_crew.specs.Bodies.{builtin-answers-once};
+
+    ghost answers_once = { λ b. builtin-answers-once };
 
     fn count(&self) -> u32 {
         10
