@@ -1,29 +1,22 @@
 -- What a whole run of a determinate document shows.
-use Rattle.std.proofs.Common.{◌≡◌, ℕ, zero, suc, ◌+◌, Bool, true, false, ◌&&◌, nat_eq, Option, Some, None, Ok, List, [], ◌∷◌, length, slice_get, refl, sym, ap, ◌∙◌, subst, arith, eq-eqb}
+use Rattle.std.proofs.Common.{◌≡◌, ℕ, Bool, true, false, Option, Some, None, Ok, List, length, refl, subst}
 use Rattle.std.specs.Prelude.{IfSome}
 use Rattle.flow_item.specs.declared.event.Event.{Event}
-use Rattle.flow_item.specs.declared.val.Val.{Val}
-use Rattle.flow_item.specs.Lists.{each_place}
-use Rattle.flow_item.specs.Values.{same_val}
 use Rattle.flow_item.proofs.Tests.{both_true}
-use Rattle.flow_progress.proofs.Same.{val-same}
-use Rattle.flow_shape.specs.declared.Shape.{Shape}
-use Rattle.flow_shape.specs.declared.Step.{Step}
 use Rattle.flow_machine.specs.Bodies.{Meanings, bodies_kept}
 use Rattle.flow_machine.specs.Machine.{is_run}
-use Rattle.flow_machine.specs.Scripts.{Sent, puts, acts, cancels, leaves, same_sent, sent_of, script, is_prefix_of, scripts_kept}
-use Rattle.flow_body.specs.Laws.{SinglesAnswerOnce}
+use Rattle.flow_determinacy.specs.Singles.{SinglesAnswerOnce}
 use Rattle.flow_doc.specs.declared.Doc.{Doc}
 use Rattle.flow_doc.specs.declared.Kept.{Kept}
 use Rattle.flow_doc.specs.Fits.{doc_fits}
 use Rattle.flow_doc.proofs.Fitting.{read_fits}
 use Rattle.flow_mean.specs.Determinate.{IsDeterminate}
-use Rattle.flow_determinacy.specs.Laws.{follows, scripts_done}
+use Rattle.flow_determinacy.specs.Laws.{follows}
 use Rattle.flow_determinacy.proofs.Results.{one-result}
 use Rattle.flow_print.specs.declared.status.Status.{Status}
 use Rattle.flow_print.specs.declared.status.Status.TheVariants as S
 use Rattle.flow_print.specs.Sinks.{sink_pairs, sinks_section}
-use Rattle.flow_work.specs.Promises.{CompletesScripts}
+use Rattle.flow_work.proofs.MeaningLemmas.{kept_whole, done_whole}
 use Rattle.flow_cli.specs.declared.input.TheConstants.{OFFERED}
 use Rattle.flow_cli.specs.declared.words.Generating.{Generating}
 use Rattle.flow_cli.specs.declared.words.Options.{Options}
@@ -34,32 +27,6 @@ use Rattle.flow_cli.specs.Gen.{RunsNumber, KeepsAsked, KeepsGenerated, IsGenAnsw
 use Rattle.flow_gen.proofs.Fitting.{found_fits}
 use Rattle.flow_cli.specs.Checked.{ShowsMeaning}
 use Rattle.flow_cli.proofs.PlainLemmas.{same_doc}
-
--- ---- a whole script is a first part of itself
-
-sent_same : (s : Sent) → same_sent s s ≡ true
-sent_same (puts n p t v) = both_true (both_true (both_true (eq-eqb n n refl) (eq-eqb p p refl)) (eq-eqb t t refl)) (val-same v)
-sent_same (acts n) = eq-eqb n n refl
-sent_same (cancels n) = eq-eqb n n refl
-sent_same leaves = refl
-
-prefix_same : (xs : List Sent) → is_prefix_of xs xs ≡ true
-prefix_same [] = refl
-prefix_same (x ∷ xs) = both_true (sent_same x) (prefix_same xs)
-
-each_from : {X : Type 0} (p : ℕ → X → Bool) (n : ℕ) (xs : List X) → ((i m : ℕ) (x : X) → m ≡ n + i → slice_get xs i ≡ Some x → p m x ≡ true) → each_place p n xs ≡ true
-each_from p n [] h = refl
-each_from p n (x ∷ xs) h = both_true (h 0 n x (omega arith) refl) (each_from p (suc n) xs (λ i m y e at. h (suc i) m y (omega (arith, e)) at))
-
-module _ (shape : Shape) (scripts : List (List Step)) (es : List Event) (whole : CompletesScripts shape scripts es) where
-  sent_whole : (i c : ℕ) (steps : List Step) → c ≡ 0 + i → slice_get scripts i ≡ Some steps → sent_of es c ≡ script shape steps
-  sent_whole i c steps e at = let same : i ≡ c = omega (arith, e) in whole c steps (ap (λ n. slice_get scripts n) (sym same) ∙ at)
-
-  kept_whole : scripts_kept shape scripts es ≡ true
-  kept_whole = each_from (λ c steps. is_prefix_of (sent_of es c) (script shape steps)) 0 scripts (λ i c steps e at. ap (λ ss. is_prefix_of ss (script shape steps)) (sent_whole i c steps e at) ∙ prefix_same (script shape steps))
-
-  done_whole : scripts_done shape scripts es ≡ true
-  done_whole = each_from (λ c steps. is_prefix_of (script shape steps) (sent_of es c)) 0 scripts (λ i c steps e at. ap (λ ss. is_prefix_of (script shape steps) ss) (sent_whole i c steps e at) ∙ prefix_same (script shape steps))
 
 -- a run of a determinate document that was done shows its meaning
 pub shows_meaning : (meanings : Meanings) (bodies workers : ℕ) (doc : Doc) (es : List Event) → doc_fits bodies doc ≡ true → is_run doc.shape (length doc.scripts) workers es ≡ true → bodies_kept meanings doc.shape es ≡ true → IsDone doc es →

@@ -6,7 +6,7 @@ use Rattle.flow_doc.specs.declared.Kept.{Kept}
 use Rattle.flow_doc.specs.declared.DocFault.{DocFault}
 use Rattle.flow_doc.specs.declared.DocFault.TheVariants as D
 use Rattle.flow_doc.specs.Reading.{document}
-use Rattle.flow_body.specs.Laws.{SinglesAnswerOnce}
+use Rattle.flow_determinacy.specs.Singles.{SinglesAnswerOnce}
 use Rattle.flow_mean.specs.Determinate.{IsDeterminate}
 use Rattle.flow_io.specs.Whole.{Took}
 use Rattle.flow_print.specs.declared.status.Status.{Status}
@@ -21,11 +21,15 @@ use Rattle.flow_cli.specs.Plain.{IsRead, IsRefused}
 
 -- ---- what the commands that run a document show
 
--- Where the document that is kept is determinate, its sinks have what it means; a body that is pure and single has to answer one message.
-abbrev pub ShowsMeaning : Meanings → Kept → Type 0
-ShowsMeaning meanings kept =
-    SinglesAnswerOnce meanings → (doc : Doc) → kept.doc ≡ Some doc → IsDeterminate meanings doc →
+-- where the document that is kept is determinate, its sinks have what it means
+abbrev pub HasMeaning : Meanings → Kept → Type 0
+HasMeaning meanings kept =
+    (doc : Doc) → kept.doc ≡ Some doc → IsDeterminate meanings doc →
     sinks_section doc.names (sink_pairs doc.shape kept.journal) doc.sinks ≡ meaning_section meanings doc
+
+-- so where each body that is pure and single answers one message
+abbrev pub ShowsMeaning : Meanings → Kept → Type 0
+ShowsMeaning meanings kept = SinglesAnswerOnce meanings → HasMeaning meanings kept
 
 -- ---- what is kept
 

@@ -5,7 +5,7 @@ ghost use Rattle.flow_io.specs.Streams.{Rose};
 ghost use Rattle.flow_work.specs.Promises.{IsFresh};
 ghost use Rattle.flow_gen.specs.Generated.{has_bodies};
 ghost use Rattle.flow_cli.specs.Words.{check_asked, command_of, gen_options, plain_options};
-ghost use Rattle.flow_cli.specs.Checked.{IsCheckAnswer, ShowsMeaning};
+ghost use Rattle.flow_cli.specs.Checked.{HasMeaning, IsCheckAnswer, ShowsMeaning};
 ghost use Rattle.flow_cli.specs.Gen.{IsGenAnswer};
 ghost use Rattle.flow_cli.specs.Plain.{KeepsDocument, OfRun, IsLegalRun, IsRefusedLast, FollowsCallers, HeedsCallers, AgreesThroughout, IsPrinted, IsCaused, IsDue};
 ghost use Rattle.flow_cli.specs.Steps.{IsAnswer};
@@ -17,6 +17,7 @@ use crate::lines::{refuse, say, tell_no_memory};
 use crate::run::run_document;
 use crate::words::{Command, Options, named_command, plain_words};
 use flow_body::Shelf;
+use flow_determinacy::shelf_answers_once;
 use flow_doc::Kept;
 use flow_io::{Sink, Source};
 use flow_print::{Status, words_text};
@@ -108,10 +109,11 @@ pub fn plain_top<S: Source, K: Sink>(
     ensures complete { command_of (map string_bytes words.now) ≡ Command.Plain → (Rose (S.faults source.old) (S.faults source.new) (S.is_full source.new) → ⊥) → (Rose (K.faults sink.old) (K.faults sink.new) (K.is_full sink.new) → ⊥)
         → (result ≡ Status.Memory) ⊎ IsDue (map (λ b. b.name) shelf.now.bodies.items) (plain_options (map string_bytes words.now)) (S.left source.old) result }
     ensures generated { command_of (map string_bytes words.now) ≡ Command.Gen → IsGenAnswer (map (λ b. b.name) shelf.now.bodies.items) (meanings_of_shelf (λ n. pure (n.body.vtable, n.body.value)) (λ n. single (n.body.vtable, n.body.value)) (λ n. out (n.body.vtable, n.body.value)) shelf.now.bodies.items) (gen_options (map string_bytes words.now)) kept.new result (K.written sink.old) (K.written sink.new) }
-    ensures meaning { (command_of (map string_bytes words.now) ≡ Command.Check → ⊥) → result ≡ Status.Done → ShowsMeaning (meanings_of_shelf (λ n. pure (n.body.vtable, n.body.value)) (λ n. single (n.body.vtable, n.body.value)) (λ n. out (n.body.vtable, n.body.value)) shelf.now.bodies.items) kept.new }
+    ensures meaning { (command_of (map string_bytes words.now) ≡ Command.Check → ⊥) → result ≡ Status.Done → HasMeaning (meanings_of_shelf (λ n. pure (n.body.vtable, n.body.value)) (λ n. single (n.body.vtable, n.body.value)) (λ n. out (n.body.vtable, n.body.value)) shelf.now.bodies.items) kept.new }
     ensures checked { command_of (map string_bytes words.now) ≡ Command.Check → IsCheckAnswer (map (λ b. b.name) shelf.now.bodies.items) (meanings_of_shelf (λ n. pure (n.body.vtable, n.body.value)) (λ n. single (n.body.vtable, n.body.value)) (λ n. out (n.body.vtable, n.body.value)) shelf.now.bodies.items) (check_asked (map string_bytes words.now)) (S.left source.old) (S.left source.new) kept.new result (K.written sink.old) (K.written sink.new) }
     ensures unread { command_of (map string_bytes words.now) ≡ Command.Gen → source.new ≡ source.old }
 {
+    shelf_answers_once(shelf);
     match named_command(words) {
         Command::Gen => gen_line(alloc, words, sink, shelf, kept),
         Command::Check => check_line(alloc, words, source, sink, shelf, kept),

@@ -1,13 +1,12 @@
 -- What a document that fits a shelf has.
-use Rattle.std.proofs.Common.{◌≡◌, ℕ, ◌<◌, ◌≤◌, Bool, true, false, ◌&&◌, leb, Option, Some, None, List, length, refl, sym, ap, ◌∙◌, arith}
+use Rattle.std.proofs.Common.{◌≡◌, ℕ, ◌≤◌, true, ◌&&◌, Option, Some, None, length, refl}
 use Rattle.std.proofs.lemmas.Bool.{leb-true}
 use Rattle.std.specs.Prelude.{is_none, nat_eq, nat_le}
 use Rattle.std.specs.List.{list_all}
 use Rattle.flow_item.proofs.Tests.{and_left, and_right}
-use Rattle.flow_shape.specs.declared.Shape.{Shape}
 use Rattle.flow_shape.specs.Rules.{IsValid, first_fault}
 use Rattle.flow_doc.specs.declared.Doc.{Doc}
-use Rattle.flow_doc.specs.Fits.{kind_fits, step_fits, sink_fits, doc_fits}
+use Rattle.flow_doc.specs.Fits.{kind_fits, step_fits, doc_fits}
 
 none-of : {X : Type 0} (o : Option X) → is_none o ≡ true → o ≡ None
 none-of None h = refl

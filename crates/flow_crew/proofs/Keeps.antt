@@ -1,16 +1,14 @@
 -- Who runs a body on the item with which it began keeps the body's meaning.
-use Rattle.std.proofs.Common.{◌≡◌, ℕ, suc, ◌+◌, ◌<◌, ◌≤◌, Bool, true, false, cond, not, ◌&&◌, ◌||◌, eqb, length, Option, Some, None, List, [], ◌∷◌, ◌++◌, refl, sym, ap, ◌∙◌, subst, arith, eq-eqb, append-nil, append_assoc}
-use Rattle.std.specs.Prelude.{slice_get}
+use Rattle.std.proofs.Common.{◌≡◌, ℕ, Bool, true, false, cond, Option, Some, None, List, ◌++◌, refl, sym, ap, ◌∙◌, subst, eq-eqb}
+use Rattle.std.specs.Prelude.{slice_get, if◌then◌else◌}
 use Rattle.std.specs.List.{list_all}
-use mathlib.Core.List.{IsPrefix}
 use Rattle.flow_item.specs.declared.item.Item.{Item}
 use Rattle.flow_item.specs.declared.item.Msg.{Msg}
 use Rattle.flow_item.specs.declared.event.Event.{Event}
 use Rattle.flow_item.specs.declared.event.Event.TheVariants as E
-use Rattle.flow_item.specs.declared.event.Party.{Party}
 use Rattle.flow_item.specs.declared.event.Party.TheVariants.{Node}
 use Rattle.flow_item.specs.Events.{parties_of}
-use Rattle.flow_item.specs.Legal.{projection, replay, takes_part}
+use Rattle.flow_item.specs.Legal.{projection, replay}
 use Rattle.flow_item.specs.Lists.{first}
 use Rattle.flow_item.specs.Values.{same_msgs}
 use Rattle.flow_item.proofs.Journals.{projection-append, replay-append}
@@ -25,9 +23,38 @@ use Rattle.flow_machine.specs.Bodies.{Meanings, running_item, end_kept, body_kep
 use Rattle.flow_machine.proofs.Frames.{Fits}
 use Rattle.flow_laws.proofs.Births.{fits-along}
 use Rattle.flow_progress.proofs.Once.{Once, once}
-use Rattle.flow_book.specs.Jobs.{next_item}
-use Rattle.flow_crew.specs.Bodies.{is_function, answers_for}
+use Rattle.flow_node.specs.Built.{is_built}
+use Rattle.flow_book.specs.Jobs.{body_of, next_item}
+use Rattle.flow_book.specs.declared.job.JobBody.{JobBody}
+use Rattle.flow_crew.specs.Bodies.{answers_job}
 use Rattle.flow_crew.proofs.Stays.{Fit, fit-first, fit-replayed, fit-running}
+
+-- whether bodies of the kind run on items that came
+abbrev pub is_function : Kind → Bool
+is_function (K.Function reject limit body arg) = true
+is_function k = false
+
+-- of the kinds for which there is code only functions have bodies
+pub built-function : (k : Kind) (b : JobBody) → body_of k ≡ Some b → is_built k ≡ true → is_function k ≡ true
+built-function (K.Function reject limit body arg) b h built = refl
+built-function (K.Multi reject limit body arg outs) b h built = cc
+built-function (K.Input body arg) b h built = cc
+built-function (K.Continue body arg) b h built = cc
+built-function (K.Async reject limit arg) b h built = cc
+built-function k b h built = cc
+
+-- whether the messages are those of the kind's body for the item, where it is pure
+abbrev pub answers_for : Meanings → Kind → Item → List Msg → Bool
+answers_for m (K.Function reject limit body arg) x outs = if m.is_pure body then same_msgs outs (m.out body arg x.tag x.val) else true
+answers_for m k x outs = true
+
+pub answers-kind : (m : Meanings) (k : Kind) (b : JobBody) (x : Item) (outs : List Msg) → body_of k ≡ Some b → answers_job m b x outs ≡ true → answers_for m k x outs ≡ true
+answers-kind m (K.Function reject limit body arg) b x outs is h = ap (λ (o : Option JobBody). of_job o) is ∙ h
+  where
+    of_job : Option JobBody → Bool
+    of_job None = true
+    of_job (Some b) = answers_job m b x outs
+answers-kind m k b x outs is h = refl
 
 is-body : (k : Kind) (p : Part) → is_function k ≡ true → Fits k p → (w : BodyState) × (p ≡ body_part w)
 is-body (K.Function reject limit body arg) (body_part w) h f = (w, refl)

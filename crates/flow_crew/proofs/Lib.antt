@@ -1,9 +1,12 @@
+pub mod Answered
 pub mod Fitted
 pub mod Keeps
 pub mod Lists
+pub mod Owned
 pub mod Quiet
 pub mod Ready
 pub mod Seen
 pub mod Shelved
 pub mod Stays
+pub mod Wished
 pub mod Works

@@ -1,6 +1,7 @@
 -- Lists that are taken apart from their end.
-use Rattle.std.proofs.Common.{◌≡◌, ℕ, suc, ◌+◌, ◌<◌, ◌≤◌, ◌≢◌, List, [], ◌∷◌, ◌++◌, map, reverse, length, All, refl, sym, ap, ◌∙◌, subst, arith, append_assoc, append-nil, length-append}
-use Rattle.std.proofs.lemmas.List.{map-append, reverse-append}
+use Rattle.std.proofs.Common.{◌≡◌, ◌+◌, ◌<◌, ◌≢◌, List, [], ◌∷◌, ◌++◌, map, reverse, length, All, refl, sym, ap, ◌∙◌, subst, arith, append_assoc, append-nil, length-append}
+use Rattle.std.proofs.lemmas.List.{map-append, reverse-append, reverse-reverse, length-map}
+use Rattle.std.proofs.lemmas.List.Elements.{All-nil, All-cons, All-head, All-tail, All-append}
 
 pub map-reverse : {A B : Type 0} (f : A → B) (xs : List A) → map f (reverse xs) ≡ reverse (map f xs)
 map-reverse f [] = refl
@@ -10,12 +11,12 @@ map-reverse f (x ∷ xs) =
     ∙ (ap (λ l. l ++ f x ∷ []) (map-reverse f xs) ∙ sym (reverse-append (f x ∷ []) (map f xs))))
 
 -- one more is taken from the end of a list, and put behind those that were taken before
-pub one-taken : {A B : Type 0} (f : A → B) (all old new : List B) (c : B) (xs : List A) (x : A) → f x ≡ c → all ≡ old ++ reverse (map f xs) → old ≡ new ++ c ∷ []
-    → all ≡ new ++ reverse (map f (xs ++ x ∷ []))
-one-taken f all old new c xs x is h out =
-    let more : reverse (map f (xs ++ x ∷ [])) ≡ f x ∷ reverse (map f xs) = ap reverse (map-append f xs (x ∷ [])) ∙ reverse-append (map f xs) (f x ∷ []) in
+pub one-taken : {A B : Type 0} (f : A → B) (all old new : List B) (c : B) (xs more : List A) (x : A) → more ≡ xs ++ x ∷ [] → f x ≡ c → all ≡ old ++ reverse (map f xs) → old ≡ new ++ c ∷ []
+    → all ≡ new ++ reverse (map f more)
+one-taken f all old new c xs more x grown is h out =
+    let turned_one : reverse (map f more) ≡ f x ∷ reverse (map f xs) = ap (λ l. reverse (map f l)) grown ∙ (ap reverse (map-append f xs (x ∷ [])) ∙ reverse-append (map f xs) (f x ∷ [])) in
     h ∙ (ap (λ l. l ++ reverse (map f xs)) (out ∙ ap (λ y. new ++ y ∷ []) (sym is))
-    ∙ (append_assoc new (f x ∷ []) (reverse (map f xs)) ∙ ap (λ l. new ++ l) (sym more)))
+    ∙ (append_assoc new (f x ∷ []) (reverse (map f xs)) ∙ ap (λ l. new ++ l) (sym turned_one)))
 
 -- in the end they are turned round
 pub all-taken : {A B : Type 0} (f : A → B) (all new : List B) (xs ys : List A) → all ≡ new ++ reverse (map f xs) → ys ≡ reverse xs → all ≡ new ++ map f ys
@@ -47,3 +48,40 @@ pub all-given : {A B : Type 0} (f : A → B) (old new : List B) (all xs : List A
 all-given f old new all xs h none =
     let left : xs ≡ [] = empty-of xs none in
     sym (append-nil new) ∙ (ap (λ l. new ++ reverse (map f l)) (sym left) ∙ h)
+
+-- what was turned round before it was given back
+pub turned : {A B : Type 0} (f : A → B) (xs ys : List A) → ys ≡ reverse xs → reverse (map f ys) ≡ map f xs
+turned f xs ys h = ap (λ l. reverse (map f l)) h ∙ (ap reverse (map-reverse f xs) ∙ reverse-reverse (map f xs))
+
+-- all are given back to a list, in their order
+pub seated : {A B : Type 0} (f : A → B) (before old new : List B) (xs ys : List A) → old ≡ before → ys ≡ reverse xs → new ≡ old ++ reverse (map f ys) → new ≡ before ++ map f xs
+seated f before old new xs ys is h more = more ∙ (ap (λ l. l ++ reverse (map f ys)) is ∙ ap (λ l. before ++ l) (turned f xs ys h))
+
+pub all-first : {A : Type 0} (P Q : A → Type 0) (xs : List A) → All (λ x. P x × Q x) xs → All P xs
+all-first P Q [] h = All-nil P
+all-first P Q (x ∷ xs) h = All-cons P x xs (All-head (λ x. P x × Q x) x xs h).0 (all-first P Q xs (All-tail (λ x. P x × Q x) x xs h))
+
+pub all-second : {A : Type 0} (P Q : A → Type 0) (xs : List A) → All (λ x. P x × Q x) xs → All Q xs
+all-second P Q [] h = All-nil Q
+all-second P Q (x ∷ xs) h = All-cons Q x xs (All-head (λ x. P x × Q x) x xs h).1 (all-second P Q xs (All-tail (λ x. P x × Q x) x xs h))
+
+-- what holds of each is left where the last is put first
+pub all-turned : {A : Type 0} (P : A → Type 0) (xs : List A) → All P xs → All P (reverse xs)
+all-turned P [] h = All-nil P
+all-turned P (x ∷ xs) h =
+    subst (λ (l : List _). All P l) (sym (reverse-append (x ∷ []) xs))
+    (All-append P (reverse xs) (x ∷ []) (all-turned P xs (All-tail P x xs h)) (All-cons P x [] (All-head P x xs h) (All-nil P)))
+
+-- how many are left when some were taken out
+pub left-over : {A B : Type 0} (f : A → B) (all new : List B) (xs : List A) → all ≡ new ++ map f xs → length all ≡ length new + length xs
+left-over f all new xs h =
+    let both = ap length h ∙ length-append new (map f xs) in
+    let some = length-map xs f in
+    omega (arith, both, some)
+
+-- nothing is left when all were taken out
+pub all-out : {A B : Type 0} (f : A → B) (all new : List B) (xs : List A) → all ≡ new ++ map f xs → length all ≡ length xs → (new ≡ []) × (map f xs ≡ all)
+all-out f all new xs h long =
+    let left = left-over f all new xs h in
+    let none : new ≡ [] = empty-of new (omega (arith, left, long)) in
+    (none, sym (h ∙ ap (λ l. l ++ map f xs) none))

@@ -1,10 +1,9 @@
 -- Where all callers have left and nothing is open, no event comes any more.
-use Rattle.std.proofs.Common.{◌≡◌, ℕ, zero, suc, ◌+◌, ◌-◌, ◌<◌, ◌≤◌, Bool, true, false, cond, not, ◌&&◌, ◌||◌, eqb, ltb, Option, Some, None, List, [], ◌∷◌, ◌++◌, length, refl, sym, ap, ◌∙◌, subst, arith, rules, append-nil, eq-eqb}
+use Rattle.std.proofs.Common.{◌≡◌, ℕ, ◌+◌, ◌<◌, Bool, true, false, cond, not, ◌&&◌, ◌||◌, eqb, ltb, Option, Some, None, List, [], ◌∷◌, ◌++◌, length, refl, sym, ap, ◌∙◌, arith, rules, append-nil, eq-eqb}
 use Rattle.std.proofs.lemmas.Bool.{eqb-true, ltb-true, lt-ltb}
 use Rattle.std.proofs.lemmas.List.Sums.{sum_by-append}
-use Rattle.std.specs.Prelude.{slice_get, is_none, IsTrue}
+use Rattle.std.specs.Prelude.{slice_get, IsTrue}
 use Rattle.std.specs.List.{list_all, list_any, count_by}
-use Rattle.flow_item.specs.declared.item.Item.{Item}
 use Rattle.flow_item.specs.declared.event.Event.{Event}
 use Rattle.flow_item.specs.declared.event.Event.TheVariants as E
 use Rattle.flow_item.specs.declared.event.Party.{Party}
@@ -19,9 +18,9 @@ use Rattle.flow_shape.specs.declared.Shape.{Shape}
 use Rattle.flow_shape.specs.Kinds.{is_async}
 use Rattle.flow_shape.specs.Places.{place_at}
 use Rattle.flow_shape.specs.Rules.{IsValid}
-use Rattle.flow_machine.specs.State.{Part, body_part, input_part, continue_part, NodeState, one_if}
+use Rattle.flow_machine.specs.State.{Part, body_part, input_part, continue_part, one_if}
 use Rattle.flow_machine.specs.Enabled.{is_numbered, has_ticket, at_rest}
-use Rattle.flow_machine.specs.OpenParts.{open_parts, open_bodies, open_holds}
+use Rattle.flow_machine.specs.OpenParts.{open_parts, open_bodies}
 use Rattle.flow_machine.specs.Machine.{Task, task_of, runs, is_leave, allows, is_legal, is_of_run, is_run, may_follow, state_of, open_after}
 use Rattle.flow_machine.specs.Settled.{is_move, IsSettled}
 use Rattle.flow_laws.proofs.Names.{all-append}
@@ -69,7 +68,7 @@ second-takes p q true h = refl
 second-takes p q false h = h
 
 module _ (shape : Shape) (callers workers : ℕ) (es : List Event) where
-  stays : is_run shape callers workers es ≡ true → count_by is_leave es ≡ callers → (c : ℕ) → c < callers → has_left es c ≡ false → ⊥
+  pub stays : is_run shape callers workers es ≡ true → count_by is_leave es ≡ callers → (c : ℕ) → c < callers → has_left es c ≡ false → ⊥
   stays run all c within h =
       let legal = and_left (is_legal shape es) (list_all (is_of_run shape callers workers) es) run in
       let own = and_right (is_legal shape es) (list_all (is_of_run shape callers workers) es) run in

@@ -1,5 +1,5 @@
 -- The bodies of nodes for which there is code stand on the shelf.
-use Rattle.std.proofs.Common.{◌≡◌, ℕ, ◌<◌, ◌≤◌, Bool, true, false, ◌&&◌, ltb, Option, Some, None, List, refl, sym, ap, ◌∙◌, arith}
+use Rattle.std.proofs.Common.{◌≡◌, ℕ, ◌<◌, true, ltb, Option, Some, List, arith}
 use Rattle.std.proofs.lemmas.Bool.{ltb-true}
 use Rattle.std.specs.Prelude.{slice_get}
 use Rattle.std.specs.List.{list_all}
@@ -8,7 +8,6 @@ use Rattle.flow_item.specs.Values as v
 use Rattle.flow_item.proofs.Tests.{and_left}
 use Rattle.flow_shape.specs.declared.Kind.{Kind}
 use Rattle.flow_shape.specs.declared.Kind.TheVariants as K
-use Rattle.flow_shape.specs.declared.Shape.{Shape}
 use Rattle.flow_shape.proofs.Sorting.{all-at}
 use Rattle.flow_doc.specs.Fits.{kind_fits}
 use Rattle.flow_node.specs.Built.{is_built}

@@ -1,5 +1,5 @@
 -- The item of a body that runs stays as it was when the body began.
-use Rattle.std.proofs.Common.{◌≡◌, ℕ, suc, ◌+◌, ◌<◌, ◌≤◌, Bool, true, false, cond, not, ◌&&◌, ◌||◌, eqb, ltb, filter, length, Option, Some, None, List, [], ◌∷◌, ◌++◌, refl, sym, ap, ◌∙◌, subst, arith}
+use Rattle.std.proofs.Common.{◌≡◌, ℕ, suc, ◌+◌, ◌<◌, ◌≤◌, Bool, true, false, cond, not, ◌||◌, eqb, ltb, Option, Some, None, List, [], ◌∷◌, ◌++◌, refl, sym, ap, ◌∙◌, arith}
 use Rattle.std.proofs.lemmas.Bool.{eqb-true, ltb-true}
 use Rattle.std.specs.Prelude.{slice_get}
 use Rattle.std.specs.List.{list_all, list_any}
@@ -12,9 +12,8 @@ use Rattle.flow_item.specs.declared.event.PutAnswer.TheVariants.{Accepted, Refus
 use Rattle.flow_item.specs.declared.event.Link.{Link}
 use Rattle.flow_item.specs.declared.event.Land.{Land}
 use Rattle.flow_item.specs.declared.event.Land.TheVariants as L
-use Rattle.flow_item.specs.Lists.{first, rest, drop_first}
-use Rattle.flow_item.specs.Events.{parties_of}
-use Rattle.flow_item.specs.Legal.{projection, replay}
+use Rattle.flow_item.specs.Lists.{first, drop_first}
+use Rattle.flow_item.specs.Legal.{replay}
 use Rattle.flow_item.proofs.Tests.{and_left, and_right, both_true}
 use Rattle.flow_shape.specs.Kinds.{limit_of, is_async}
 use Rattle.flow_shape.specs.Places.{Place, over, to_limits, edge_switches}
@@ -25,7 +24,7 @@ use Rattle.flow_machine.specs.Reservations.{count_where}
 use Rattle.flow_machine.specs.Bodies.{items_numbered}
 use Rattle.flow_machine.specs.After.{queue_up, part_after_arrival, part_after_landing, part_after_give, part_after_refuse, part_after_hold, part_after_take, part_after_free, part_with_hold, part_without_debt, part_without_hold, unless_held, part_after_act, part_after_cancel, part_after_start, with_promotion_of, part_after_end, part_after_back, part_after_form, part_after_split, part_after_shut, numbers_of, end_after, part_after, after}
 use Rattle.flow_laws.proofs.Names.{all-append, all-drop_first, all-rest}
-use Rattle.flow_progress.proofs.Once.{Once, cap, total}
+use Rattle.flow_progress.proofs.Once.{Once, cap}
 
 module _ (q : Item → Bool) (i : ℕ) where
   -- whether the item has another number, or passes the test
@@ -206,11 +205,12 @@ module _ (q : Item → Bool) (i : ℕ) where
 
   none-fit : (xs : List Item) → count_where (is_numbered i) xs ≡ 0 → all_fit xs ≡ true
   none-fit [] h = refl
-  none-fit (x ∷ xs) h = by_number (eqb x.id.no i) refl h
+  none-fit (x ∷ xs) h = by_number (eqb x.id.no i) refl h (none-fit xs)
     where
-      by_number : (b : Bool) → eqb x.id.no i ≡ b → cond b (suc (count_where (is_numbered i) xs)) (count_where (is_numbered i) xs) ≡ 0 → all_fit (x ∷ xs) ≡ true
-      by_number true e c = let never : ⊥ = omega (arith, c) in absurd never
-      by_number false e c = both_true (ap (λ b. not b || q x) e) (none-fit xs c)
+      by_number : (b : Bool) → eqb x.id.no i ≡ b → cond b (suc (count_where (is_numbered i) xs)) (count_where (is_numbered i) xs) ≡ 0 → (count_where (is_numbered i) xs ≡ 0 → all_fit xs ≡ true)
+          → all_fit (x ∷ xs) ≡ true
+      by_number true e c r = let never : ⊥ = omega (arith, c) in absurd never
+      by_number false e c r = both_true (ap (λ b. not b || q x) e) (r c)
 
   one-fits : (x : Item) → q x ≡ true → fits x ≡ true
   one-fits x h = by_number (eqb x.id.no i)

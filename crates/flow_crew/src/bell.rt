@@ -2,55 +2,181 @@
 use std::sync::Wait;
 use std::sync::atomic::{AtomicU64, Ordering};
 
-/// Who finds no node says so before it looks once more, and then sleeps until a ring that came after it said so. So no
-/// ring is missed, and nobody who sleeps burns a core. It tells nothing: whoever is woken looks and asks again.
+// A word to sleep on. Who finds no node says so before it looks once more, and then sleeps until a ring that came after
+// it said so. So no ring is missed, and nobody who sleeps burns a core.
 #[derive(Drop)]
-pub(crate) struct Bell {
+struct Rope {
     // How often it rang.
     rings: AtomicU64,
     // How many sleep, or are about to.
     listeners: AtomicU64,
 }
 
-impl Bell {
+impl Rope {
     // It hasn't rung, and nobody listens.
-    pub(crate) fn new() -> Bell {
-        Bell {
+    fn new() -> Rope {
+        Rope {
             rings: AtomicU64::new(0),
             listeners: AtomicU64::new(0),
         }
     }
 
     // Listens from now on. Answers which ring was the last.
-    pub(crate) fn listen(&self) -> u32 {
+    fn listen(&self) -> u32 {
         self.listeners.fetch_add(1, Ordering::SeqCst);
         (self.rings.load(Ordering::SeqCst) % (1 << 32)) as u32
     }
 
-    // Sleeps until a ring after that one, and listens no more.
-    pub(crate) fn sleep<R: Wait>(&self, rt: &R, last: u32) {
-        self.rings.park(rt, last);
-        self.leave();
-    }
-
     // Listens no more.
-    pub(crate) fn leave(&self) {
+    fn leave(&self) {
         self.listeners.fetch_sub(1, Ordering::SeqCst);
     }
 
+    // Whether somebody listens.
+    fn is_heard(&self) -> bool {
+        self.listeners.load(Ordering::SeqCst) != 0
+    }
+
     // Wakes one who listens.
-    pub(crate) fn ring(&self) {
-        if self.listeners.load(Ordering::SeqCst) != 0 {
-            self.rings.fetch_add(1, Ordering::SeqCst);
-            self.rings.wake_one();
-        }
+    fn ring(&self) {
+        self.rings.fetch_add(1, Ordering::SeqCst);
+        self.rings.wake_one();
     }
 
     // Wakes all who listen.
-    pub(crate) fn ring_all(&self) {
-        if self.listeners.load(Ordering::SeqCst) != 0 {
+    fn ring_all(&self) {
+        if self.is_heard() {
             self.rings.fetch_add(1, Ordering::SeqCst);
             self.rings.wake_all();
+        }
+    }
+}
+
+/// It tells nothing: whoever is woken looks and asks again.
+///
+/// Something is open as long as somebody is at work. So only the last who finds no node, where an event was made since,
+/// calls on the others to ask what is open: on the callers that wait, and on the workers once all callers have left. A
+/// refusal calls on all, and so does the caller that leaves last.
+#[derive(Drop)]
+pub(crate) struct Bell {
+    workers: Rope,
+    // Those that wait.
+    callers: Rope,
+    // How many are at work.
+    busy: AtomicU64,
+    // Whether an event was made since all were called on: 1 or 0.
+    news: AtomicU64,
+    // How often all were called on.
+    calls: AtomicU64,
+    // How many callers have left.
+    gone: AtomicU64,
+}
+
+impl Bell {
+    // It hasn't rung, and nobody is there.
+    pub(crate) fn new() -> Bell {
+        Bell {
+            workers: Rope::new(),
+            callers: Rope::new(),
+            busy: AtomicU64::new(0),
+            news: AtomicU64::new(0),
+            calls: AtomicU64::new(0),
+            gone: AtomicU64::new(0),
+        }
+    }
+
+    fn rope(&self, waits: bool) -> &Rope {
+        if waits { &self.callers } else { &self.workers }
+    }
+
+    // Is at work from now on.
+    pub(crate) fn come(&self) {
+        self.busy.fetch_add(1, Ordering::SeqCst);
+    }
+
+    // Is at work no more. All were called on.
+    pub(crate) fn go(&self) {
+        self.busy.fetch_sub(1, Ordering::SeqCst);
+    }
+
+    // Listens no more, and isn't at work.
+    pub(crate) fn quit(&self, waits: bool) {
+        self.rope(waits).leave();
+    }
+
+    // Found no node, and listens from now on. Answers which ring was the last.
+    pub(crate) fn listen(&self, waits: bool) -> u32 {
+        let last = self.rope(waits).listen();
+        self.busy.fetch_sub(1, Ordering::SeqCst);
+        last
+    }
+
+    // Is at work again, and listens no more.
+    pub(crate) fn leave(&self, waits: bool) {
+        self.busy.fetch_add(1, Ordering::SeqCst);
+        self.rope(waits).leave();
+    }
+
+    // Sleeps until a ring after that one, and is at work again.
+    pub(crate) fn sleep<R: Wait>(&self, rt: &R, waits: bool, last: u32) {
+        self.rope(waits).rings.park(rt, last);
+        self.leave(waits);
+    }
+
+    // An event was made.
+    pub(crate) fn tell(&self) {
+        self.news.swap(1, Ordering::SeqCst);
+    }
+
+    // Wakes one who listens, a worker where there is one.
+    pub(crate) fn ring(&self) {
+        if self.workers.is_heard() {
+            self.workers.ring();
+        } else if self.callers.is_heard() {
+            self.callers.ring();
+        }
+    }
+
+    // Calls on all.
+    pub(crate) fn call(&self) {
+        self.calls.fetch_add(1, Ordering::SeqCst);
+        self.callers.ring_all();
+        self.workers.ring_all();
+    }
+
+    // One of so many callers has left.
+    pub(crate) fn leave_last(&self, callers: u32) {
+        self.gone.fetch_add(1, Ordering::SeqCst);
+        if self.is_deserted(callers) {
+            self.call();
+        }
+    }
+
+    // Whether so many callers have left.
+    fn is_deserted(&self, callers: u32) -> bool {
+        u64::from(callers) <= self.gone.load(Ordering::SeqCst)
+    }
+
+    // Whether who listens is to ask what is open, since it didn't after so many calls.
+    pub(crate) fn is_called(&self, callers: u32, heard: &mut u64) -> bool {
+        if self.busy.load(Ordering::SeqCst) == 0 {
+            self.call_last(callers);
+        }
+        let calls = self.calls.load(Ordering::SeqCst);
+        let asks = *heard != calls;
+        *heard = calls;
+        asks
+    }
+
+    // Nobody is at work. Where an event was made, those are called on whom it may concern.
+    fn call_last(&self, callers: u32) {
+        if self.is_deserted(callers) {
+            if self.news.swap(0, Ordering::SeqCst) != 0 {
+                self.call();
+            }
+        } else if self.callers.is_heard() && self.news.swap(0, Ordering::SeqCst) != 0 {
+            self.calls.fetch_add(1, Ordering::SeqCst);
+            self.callers.ring_all();
         }
     }
 }

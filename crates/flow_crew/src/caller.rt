@@ -2,6 +2,9 @@
 ghost use Rattle.std.specs.Prelude.{◌≡◌, true, false, IfSome, IfNone, IfOk, IfErr, OnOk};
 ghost use Rattle.flow_item.specs.declared.event.PutAnswer.{PutAnswer};
 ghost use Rattle.flow_item.specs.declared.event.Event.TheVariants as E;
+ghost use Rattle.flow_item.specs.declared.event.Party.TheVariants.{Caller as of_caller};
+ghost use Rattle.flow_item.specs.Events.{parties_of};
+ghost use Rattle.flow_item.specs.Legal.{projection};
 ghost use Rattle.flow_pool.specs.Posts.{IsPostOf};
 ghost use Rattle.flow_book.specs.Answers.{IsDone, IsHalted, IsSame, Was};
 ghost use Rattle.flow_book.specs.Callers.{number_of, may_call, takes_puts, takes_acts};
@@ -12,7 +15,7 @@ use crate::graph::Graph;
 use crate::waited::Waited;
 use crate::worker::{Turn, Worker};
 use flow_book::{Gate, GraphMachine};
-use flow_item::{PutAnswer, Stop, Val};
+use flow_item::{Party, PutAnswer, Stop, Val};
 use flow_line::{Chair, Naming};
 use std::alloc::Global;
 use std::sync::Wait;
@@ -25,6 +28,20 @@ pub struct Caller<B: Naming> {
 }
 
 impl<B: Naming> Caller<B> {
+    /// Its number. Its own events are all of its party in what it has seen.
+    pub fn number<S: Bodies, G: Gate>(&self, graph: &Graph<S, G, B>) -> u32
+        requires { IsCaller (S.meanings graph.now.bench.bodies.now) graph.now.book.run graph.now.book.items graph.now.book.events self.now.chair }
+        ensures number { self.now.chair.party ≡ of_caller result }
+        ensures own { self.now.chair.own ≡ projection parties_of self.now.chair.party self.now.chair.seen }
+    {
+        let _ = graph;
+        let _ = self.chair.own_len();
+        match self.chair.party() {
+            Party::Caller(number) => number,
+            _ => unreachable!(),
+        }
+    }
+
     /// Puts a value to a node.
     pub fn put<R: Wait, S: Bodies, G: Gate>(
         &mut self,
@@ -36,11 +53,11 @@ impl<B: Naming> Caller<B> {
         tag: u64,
         val: &Val,
     ) -> Result<PutAnswer, Stop>
-        requires of { IsCaller graph.now.book.run graph.now.book.items graph.now.book.events self.old.chair }
+        requires of { IsCaller (S.meanings graph.now.bench.bodies.now) graph.now.book.run graph.now.book.items graph.now.book.events self.old.chair }
         requires post { IsPostOf graph.now.pool self.old.worker.post }
         requires caller { may_call graph.now.book.run self.old.chair ≡ true }
         requires port { takes_puts graph.now.book.run.shape node port ≡ true }
-        ensures of { IsCaller graph.now.book.run graph.now.book.items graph.now.book.events self.new.chair }
+        ensures of { IsCaller (S.meanings graph.now.bench.bodies.now) graph.now.book.run graph.now.book.items graph.now.book.events self.new.chair }
         ensures post { IsPostOf graph.now.pool self.new.worker.post }
         ensures worker { (self.new.worker.chair ≡ self.old.worker.chair) × (self.new.worker.busy ≡ self.old.worker.busy) }
         ensures stays { may_call graph.now.book.run self.new.chair ≡ true }
@@ -53,7 +70,7 @@ impl<B: Naming> Caller<B> {
                 Ok(answer)
             }
             Err(stop) => {
-                graph.bell.ring_all();
+                graph.bell.call();
                 Err(stop)
             }
         }
@@ -67,11 +84,11 @@ impl<B: Naming> Caller<B> {
         graph: &Graph<S, G, B>,
         node: u32,
     ) -> Result<(), Stop>
-        requires of { IsCaller graph.now.book.run graph.now.book.items graph.now.book.events self.old.chair }
+        requires of { IsCaller (S.meanings graph.now.bench.bodies.now) graph.now.book.run graph.now.book.items graph.now.book.events self.old.chair }
         requires post { IsPostOf graph.now.pool self.old.worker.post }
         requires caller { may_call graph.now.book.run self.old.chair ≡ true }
         requires input { takes_acts graph.now.book.run.shape node ≡ true }
-        ensures of { IsCaller graph.now.book.run graph.now.book.items graph.now.book.events self.new.chair }
+        ensures of { IsCaller (S.meanings graph.now.bench.bodies.now) graph.now.book.run graph.now.book.items graph.now.book.events self.new.chair }
         ensures post { IsPostOf graph.now.pool self.new.worker.post }
         ensures worker { (self.new.worker.chair ≡ self.old.worker.chair) × (self.new.worker.busy ≡ self.old.worker.busy) }
         ensures stays { may_call graph.now.book.run self.new.chair ≡ true }
@@ -87,7 +104,7 @@ impl<B: Naming> Caller<B> {
                 Ok(())
             }
             Err(stop) => {
-                graph.bell.ring_all();
+                graph.bell.call();
                 Err(stop)
             }
         }
@@ -99,16 +116,23 @@ impl<B: Naming> Caller<B> {
         rt: &R,
         graph: &Graph<S, G, B>,
     ) -> Result<(), Stop>
-        requires of { IsCaller graph.now.book.run graph.now.book.items graph.now.book.events self.old.chair }
+        requires of { IsCaller (S.meanings graph.now.bench.bodies.now) graph.now.book.run graph.now.book.items graph.now.book.events self.old.chair }
         requires caller { may_call graph.now.book.run self.old.chair ≡ true }
-        ensures of { IsCaller graph.now.book.run graph.now.book.items graph.now.book.events self.new.chair }
+        ensures of { IsCaller (S.meanings graph.now.bench.bodies.now) graph.now.book.run graph.now.book.items graph.now.book.events self.new.chair }
         ensures worker { self.new.worker ≡ self.old.worker }
         ensures made { OnOk result (IsDone self.old.chair (E.Leave (number_of self.old.chair.party)) self.new.chair) }
         ensures stopped { IfErr result (λ s. IsHalted self.old.chair (Was (E.Leave (number_of self.old.chair.party))) self.new.chair s) }
     {
-        let left = graph.book.leave(rt, &mut self.chair, graph.gate);
-        graph.bell.ring_all();
-        left
+        match graph.book.leave(rt, &mut self.chair, graph.gate) {
+            Ok(()) => {
+                graph.bell.leave_last(graph.callers);
+                Ok(())
+            }
+            Err(stop) => {
+                graph.bell.call();
+                Err(stop)
+            }
+        }
     }
 
     // Whether the wait has ended, and how.
@@ -117,8 +141,8 @@ impl<B: Naming> Caller<B> {
         rt: &R,
         graph: &Graph<S, G, B>,
     ) -> Option<Waited>
-        requires of { IsCaller graph.now.book.run graph.now.book.items graph.now.book.events self.old.chair }
-        ensures of { IsCaller graph.now.book.run graph.now.book.items graph.now.book.events self.new.chair }
+        requires of { IsCaller (S.meanings graph.now.bench.bodies.now) graph.now.book.run graph.now.book.items graph.now.book.events self.old.chair }
+        ensures of { IsCaller (S.meanings graph.now.bench.bodies.now) graph.now.book.run graph.now.book.items graph.now.book.events self.new.chair }
         ensures same { IsSame self.old.chair self.new.chair }
         ensures worker { (self.new.worker.chair ≡ self.old.worker.chair) × (self.new.worker.busy ≡ self.old.worker.busy) × (self.new.worker.post ≡ self.old.worker.post) }
         ensures ended { IfSome result (λ w. IsWaited graph.now.book.run self.old.chair w self.new.chair) }
@@ -135,7 +159,7 @@ impl<B: Naming> Caller<B> {
         rt: &R,
         graph: &Graph<S, G, B>,
     ) -> Option<Waited>
-        requires { IsCaller graph.now.book.run graph.now.book.items graph.now.book.events self.old.chair }
+        requires { IsCaller (S.meanings graph.now.bench.bodies.now) graph.now.book.run graph.now.book.items graph.now.book.events self.old.chair }
         ensures same { IsSame self.old.chair self.new.chair }
         ensures worker { (self.new.worker.chair ≡ self.old.worker.chair) × (self.new.worker.busy ≡ self.old.worker.busy) × (self.new.worker.post ≡ self.old.worker.post) }
         ensures ended { IfSome result (λ w. IsWaited graph.now.book.run self.old.chair w self.new.chair) }
@@ -144,8 +168,25 @@ impl<B: Naming> Caller<B> {
         if open != 0 {
             return None;
         }
-        self.worker.tell_quiet(graph);
         Some(Waited::Quiet)
+    }
+
+    // Whether the wait has ended, and how. Nobody asks who wasn't called on.
+    fn asks<R: Wait, S: Bodies, G: Gate>(
+        &mut self,
+        rt: &R,
+        graph: &Graph<S, G, B>,
+    ) -> Option<Waited>
+        requires of { IsCaller (S.meanings graph.now.bench.bodies.now) graph.now.book.run graph.now.book.items graph.now.book.events self.old.chair }
+        ensures of { IsCaller (S.meanings graph.now.bench.bodies.now) graph.now.book.run graph.now.book.items graph.now.book.events self.new.chair }
+        ensures same { IsSame self.old.chair self.new.chair }
+        ensures worker { (self.new.worker.chair ≡ self.old.worker.chair) × (self.new.worker.busy ≡ self.old.worker.busy) × (self.new.worker.post ≡ self.old.worker.post) }
+        ensures ended { IfSome result (λ w. IsWaited graph.now.book.run self.old.chair w self.new.chair) }
+    {
+        if !graph.bell.is_called(graph.callers, &mut self.worker.heard) {
+            return None;
+        }
+        self.ended(rt, graph)
     }
 
     // One round of the wait.
@@ -155,12 +196,12 @@ impl<B: Naming> Caller<B> {
         rt: &R,
         graph: &Graph<S, G, B>,
     ) -> Option<Waited>
-        requires of { IsCaller graph.now.book.run graph.now.book.items graph.now.book.events self.old.chair }
-        requires worker { IsWorker graph.now.book.run graph.now.book.items graph.now.book.events self.old.worker.chair self.old.worker.busy }
+        requires of { IsCaller (S.meanings graph.now.bench.bodies.now) graph.now.book.run graph.now.book.items graph.now.book.events self.old.chair }
+        requires worker { IsWorker (S.meanings graph.now.bench.bodies.now) graph.now.book.run graph.now.book.items graph.now.book.events self.old.worker.chair self.old.worker.busy }
         requires post { IsPostOf graph.now.pool self.old.worker.post }
         requires idle { self.old.worker.busy ≡ false }
-        ensures of { IsCaller graph.now.book.run graph.now.book.items graph.now.book.events self.new.chair }
-        ensures worker { IsWorker graph.now.book.run graph.now.book.items graph.now.book.events self.new.worker.chair self.new.worker.busy }
+        ensures of { IsCaller (S.meanings graph.now.bench.bodies.now) graph.now.book.run graph.now.book.items graph.now.book.events self.new.chair }
+        ensures worker { IsWorker (S.meanings graph.now.bench.bodies.now) graph.now.book.run graph.now.book.items graph.now.book.events self.new.worker.chair self.new.worker.busy }
         ensures post { IsPostOf graph.now.pool self.new.worker.post }
         ensures worked { HasWorked self.old.worker.chair self.new.worker.chair }
         ensures same { IsSame self.old.chair self.new.chair }
@@ -169,14 +210,17 @@ impl<B: Naming> Caller<B> {
     {
         match self.worker.turn(alloc, rt, graph) {
             Turn::Served => None,
-            Turn::Refused => Some(Waited::Halted(graph.refusal(rt, &mut self.chair))),
-            Turn::Idle(last) => match self.ended(rt, graph) {
+            Turn::Refused => {
+                graph.bell.go();
+                Some(Waited::Halted(graph.refusal(rt, &mut self.chair)))
+            }
+            Turn::Idle(last) => match self.asks(rt, graph) {
                 Some(waited) => {
-                    graph.bell.leave();
+                    graph.bell.quit(true);
                     Some(waited)
                 }
                 None => {
-                    graph.bell.sleep(rt, last);
+                    graph.bell.sleep(rt, true, last);
                     None
                 }
             },
@@ -190,11 +234,11 @@ impl<B: Naming> Caller<B> {
         rt: &R,
         graph: &Graph<S, G, B>,
     ) -> Waited
-        requires of { IsCaller graph.now.book.run graph.now.book.items graph.now.book.events self.old.chair }
-        requires worker { IsWorker graph.now.book.run graph.now.book.items graph.now.book.events self.old.worker.chair self.old.worker.busy }
+        requires of { IsCaller (S.meanings graph.now.bench.bodies.now) graph.now.book.run graph.now.book.items graph.now.book.events self.old.chair }
+        requires worker { IsWorker (S.meanings graph.now.bench.bodies.now) graph.now.book.run graph.now.book.items graph.now.book.events self.old.worker.chair self.old.worker.busy }
         requires post { IsPostOf graph.now.pool self.old.worker.post }
-        ensures of { IsCaller graph.now.book.run graph.now.book.items graph.now.book.events self.new.chair }
-        ensures worker { IsWorker graph.now.book.run graph.now.book.items graph.now.book.events self.new.worker.chair self.new.worker.busy }
+        ensures of { IsCaller (S.meanings graph.now.bench.bodies.now) graph.now.book.run graph.now.book.items graph.now.book.events self.new.chair }
+        ensures worker { IsWorker (S.meanings graph.now.bench.bodies.now) graph.now.book.run graph.now.book.items graph.now.book.events self.new.worker.chair self.new.worker.busy }
         ensures post { IsPostOf graph.now.pool self.new.worker.post }
         ensures worked { HasWorked self.old.worker.chair self.new.worker.chair }
         ensures same { IsSame self.old.chair self.new.chair }
@@ -203,6 +247,7 @@ impl<B: Naming> Caller<B> {
         if self.worker.busy {
             return Waited::Halted(graph.refusal(rt, &mut self.chair));
         }
+        self.worker.come(graph);
         for _ in rt.forever() {
             if let Some(waited) = self.round(alloc, rt, graph) {
                 return waited;

@@ -83,21 +83,24 @@ impl<'a, S: Bodies, G: Gate, B: Naming> Graph<'a, S, G, B> {
         ensures { IsPostOf self.now.pool post.new }
     {
         match self.pool.inject(rt, post, node) {
-            Ok(()) => self.bell.ring(),
+            Ok(()) => {
+                self.bell.tell();
+                self.bell.ring();
+            }
             Err(_) => {
                 self.book.halt(rt);
-                self.bell.ring_all();
+                self.bell.call();
             }
         }
     }
 
     // The first refusal, which stands behind its lock before a refused call answers.
     pub(crate) fn refusal<R: Wait>(&self, rt: &R, c: &mut Chair<GraphMachine, B>) -> Stop
-        requires { KeepsRefused c.old }
+        requires kept { KeepsRefused c.old }
         ensures shown { Shows c.new result }
         ensures same { IsSame c.old c.new }
     {
-        self.bell.ring_all();
+        self.bell.call();
         for _ in rt.forever() {
             if let Some(stop) = self.book.stopped(rt, c) {
                 return stop;

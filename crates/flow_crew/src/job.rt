@@ -1,6 +1,7 @@
 //! The body of a job.
-ghost use Rattle.std.specs.Prelude.{◌≡◌, false, IfOk, IfSome};
+ghost use Rattle.std.specs.Prelude.{◌≡◌, true, false, IfOk, IfSome};
 ghost use Rattle.flow_book.specs.Jobs.{is_submit};
+ghost use Rattle.flow_crew.specs.Bodies.{answers_job};
 ghost use Rattle.flow_crew.specs.Crew.{HasBody};
 
 use crate::bodies::Bodies;
@@ -15,7 +16,8 @@ impl<'a, S: Bodies, G: Gate, B: Naming> Graph<'a, S, G, B> {
     // The messages of a job's body.
     fn answer(&self, alloc: Global, job: &Job) -> Result<Outs, NoMemory>
         requires { HasBody self.now.book.run job.now.node job.now.body }
-        ensures { IfOk result (λ outs. is_submit job.now.body ≡ false) }
+        ensures runs { IfOk result (λ outs. is_submit job.now.body ≡ false) }
+        ensures answers { IfOk result (λ outs. answers_job (S.meanings self.now.bench.bodies.now) job.now.body job.now.item outs ≡ true) }
     {
         match &job.body {
             JobBody::Run { body, arg } => self.bench.run(alloc, *body, arg, &job.item),
@@ -26,7 +28,8 @@ impl<'a, S: Bodies, G: Gate, B: Naming> Graph<'a, S, G, B> {
     // Runs a job's body. Where it finds no memory, the graph is halted.
     pub(crate) fn run_job<R: Wait>(&self, alloc: Global, rt: &R, job: &Job) -> Option<Outs>
         requires { HasBody self.now.book.run job.now.node job.now.body }
-        ensures { IfSome result (λ outs. is_submit job.now.body ≡ false) }
+        ensures runs { IfSome result (λ outs. is_submit job.now.body ≡ false) }
+        ensures answers { IfSome result (λ outs. answers_job (S.meanings self.now.bench.bodies.now) job.now.body job.now.item outs ≡ true) }
     {
         let node = job.node;
         let no = job.item.id.no;

@@ -24,13 +24,10 @@ mod parts;
 mod waited;
 mod worker;
 
-pub use bodies::Bodies;
+pub use bodies::{Bodies, Builtin};
 pub use caller::Caller;
 pub use flow_book::{Gate, NoGate, Point};
 pub use graph::Graph;
 pub use parts::Parts;
 pub use waited::Waited;
 pub use worker::Worker;
-
-#[cfg(test)]
-mod tests;

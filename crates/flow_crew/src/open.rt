@@ -12,7 +12,7 @@ use crate::bell::Bell;
 use crate::bodies::{Bench, Bodies};
 use crate::caller::Caller;
 use crate::graph::Graph;
-use crate::parts::Parts;
+use crate::parts::{Parts, turn};
 use crate::worker::Worker;
 use flow_book::{Book, Gate, GraphMachine};
 use flow_doc::Doc;
@@ -52,6 +52,7 @@ fn last_worker<B: Naming>(
     pool: &Pool,
     chairs: &mut Chairs<GraphMachine, B>,
     posts: &mut Vec<Post>,
+    waits: bool,
 ) -> Worker<B>
     requires chairs { chairs.old.items ≢ [] }
     requires some { 0 < length posts.old.items }
@@ -67,7 +68,8 @@ fn last_worker<B: Naming>(
         chair: last_chair(chairs),
         post: last_post(pool, posts),
         busy: false,
-        worked: false,
+        heard: u64::MAX,
+        waits,
     }
 }
 
@@ -95,10 +97,10 @@ fn hire_callers<B: Naming>(
     let mut callers = Vec::new(alloc);
     'hire: while callers.len() < count as usize {
         let chair = last_chair(chairs);
-        let worker = last_worker(pool, workers, posts);
+        let worker = last_worker(pool, workers, posts, true);
         callers.push(Caller { chair, worker })?;
     }
-    callers.as_mut_slice().reverse();
+    turn(&mut callers);
     Ok(callers)
 }
 
@@ -120,9 +122,9 @@ fn hire_workers<B: Naming>(
 {
     let mut workers = Vec::new(alloc);
     'hire: while workers.len() < count as usize {
-        workers.push(last_worker(pool, chairs, posts))?;
+        workers.push(last_worker(pool, chairs, posts, false))?;
     }
-    workers.as_mut_slice().reverse();
+    turn(&mut workers);
     Ok(workers)
 }
 
@@ -145,13 +147,14 @@ impl<'a, S: Bodies, G: Gate, B: Naming> Graph<'a, S, G, B> {
         requires few { workers + length doc.now.scripts + 1 < 2 ^ 32 }
         requires limits { (items < 2 ^ 62) × (events < 2 ^ 62) }
         ensures run { IfOk result (λ r. r.graph.book.run ≡ record { shape = doc.now.shape; callers = length doc.now.scripts; workers = workers + length doc.now.scripts }) }
+        ensures bodies { IfOk result (λ r. S.meanings r.graph.bench.bodies.now ≡ S.meanings bodies.now) }
         ensures limits { IfOk result (λ r. (r.graph.book.items ≡ items) × (r.graph.book.events ≡ events)) }
         ensures callers { IfOk result (λ r. map (λ c. c.chair) r.callers.items ≡ fresh_chairs r.graph.book.run items events (callers_of r.graph.book.run)) }
         ensures workers { IfOk result (λ r. map (λ w. w.chair) r.workers.items ++ map (λ c. c.worker.chair) r.callers.items ≡ fresh_chairs r.graph.book.run items events (workers_of r.graph.book.run)) }
         ensures counts { IfOk result (λ r. (length r.callers.items ≡ length doc.now.scripts) × (length r.workers.items ≡ workers)) }
-        ensures ready { IfOk result (λ r. All (λ c. IsCaller r.graph.book.run items events c.chair × (may_call r.graph.book.run c.chair ≡ true)) r.callers.items) }
-        ensures waiters { IfOk result (λ r. All (λ c. IsWorker r.graph.book.run items events c.worker.chair c.worker.busy × IsPostOf r.graph.pool c.worker.post) r.callers.items) }
-        ensures hired { IfOk result (λ r. All (λ w. IsWorker r.graph.book.run items events w.chair w.busy × IsPostOf r.graph.pool w.post) r.workers.items) }
+        ensures ready { IfOk result (λ r. All (λ c. IsCaller (S.meanings r.graph.bench.bodies.now) r.graph.book.run items events c.chair × (may_call r.graph.book.run c.chair ≡ true)) r.callers.items) }
+        ensures waiters { IfOk result (λ r. All (λ c. IsWorker (S.meanings r.graph.bench.bodies.now) r.graph.book.run items events c.worker.chair c.worker.busy × IsPostOf r.graph.pool c.worker.post) r.callers.items) }
+        ensures hired { IfOk result (λ r. All (λ w. IsWorker (S.meanings r.graph.bench.bodies.now) r.graph.book.run items events w.chair w.busy × IsPostOf r.graph.pool w.post) r.workers.items) }
         ensures empty { IfOk result (λ r. (r.seats.callers.items ≡ []) × (r.seats.workers.items ≡ [])) }
         ensures room { IfOk result (λ r. (length r.callers.items ≤ r.seats.callers.spare) × (length r.workers.items + length r.callers.items ≤ r.seats.workers.spare)) }
     {

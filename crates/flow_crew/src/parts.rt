@@ -21,8 +21,15 @@ pub struct Parts<'a, S: Bodies, G: Gate, B: Naming> {
     pub graph: Graph<'a, S, G, B>,
     pub callers: Vec<Caller<B>>,
     pub workers: Vec<Worker<B>>,
-    // Empty lists with room for all chairs.
-    pub(crate) seats: Seats<B>,
+    /// Empty lists with room for all chairs.
+    pub seats: Seats<B>,
+}
+
+// Turns a list round.
+pub(crate) fn turn<T>(list: &mut Vec<T>)
+    ensures { list.new.items ≡ reverse list.old.items }
+{
+    list.as_mut_slice().reverse();
 }
 
 // Puts the chairs of the workers back into their list, the last worker of the list first.
@@ -58,14 +65,14 @@ impl<'a, S: Bodies, G: Gate, B: Naming> Parts<'a, S, G, B> {
         requires some { 0 < length self.workers.items + length self.callers.items }
         requires callers { All (λ c. (c.chair.about ≡ about_of self.graph.book.run self.graph.book.items self.graph.book.events) × (c.worker.chair.about ≡ about_of self.graph.book.run self.graph.book.items self.graph.book.events)) self.callers.items }
         requires workers { All (λ w. w.chair.about ≡ about_of self.graph.book.run self.graph.book.items self.graph.book.events) self.workers.items }
-        ensures run { is_run self.graph.book.run.shape self.graph.book.run.callers self.graph.book.run.workers result.0 ≡ true }
-        ensures parts { All (IsPart parties_of (about_of self.graph.book.run self.graph.book.items self.graph.book.events) result.0) (map (λ c. c.chair) self.callers.items ++ (map (λ w. w.chair) self.workers.items ++ map (λ c. c.worker.chair) self.callers.items)) }
-        ensures kept { result.1 ≡ first_kept (map (λ c. c.chair) self.callers.items ++ (map (λ w. w.chair) self.workers.items ++ map (λ c. c.worker.chair) self.callers.items)) }
-        ensures limits { IsWithinLimits self.graph.book.items self.graph.book.events result.0 }
-        ensures edges { AtEachStart (EdgesAgree self.graph.book.run.shape) result.0 }
-        ensures holds { AtEachStart (HoldsAgree self.graph.book.run.shape) result.0 }
-        ensures node_limits { AtEachStart (NodesWithinLimits self.graph.book.run.shape) result.0 }
-        ensures ledger { AtEachStart (LedgerAddsUp self.graph.book.run.shape) result.0 }
+        ensures run { is_run self.entry.graph.book.run.shape self.entry.graph.book.run.callers self.entry.graph.book.run.workers result.0 ≡ true }
+        ensures parts { All (IsPart parties_of (about_of self.entry.graph.book.run self.entry.graph.book.items self.entry.graph.book.events) result.0) (map (λ c. c.chair) self.entry.callers.items ++ (map (λ w. w.chair) self.entry.workers.items ++ map (λ c. c.worker.chair) self.entry.callers.items)) }
+        ensures kept { result.1 ≡ first_kept (map (λ c. c.chair) self.entry.callers.items ++ (map (λ w. w.chair) self.entry.workers.items ++ map (λ c. c.worker.chair) self.entry.callers.items)) }
+        ensures limits { IsWithinLimits self.entry.graph.book.items self.entry.graph.book.events result.0 }
+        ensures edges { AtEachStart (EdgesAgree self.entry.graph.book.run.shape) result.0 }
+        ensures holds { AtEachStart (HoldsAgree self.entry.graph.book.run.shape) result.0 }
+        ensures node_limits { AtEachStart (NodesWithinLimits self.entry.graph.book.run.shape) result.0 }
+        ensures ledger { AtEachStart (LedgerAddsUp self.entry.graph.book.run.shape) result.0 }
     {
         let Parts {
             graph,
@@ -73,8 +80,8 @@ impl<'a, S: Bodies, G: Gate, B: Naming> Parts<'a, S, G, B> {
             mut workers,
             mut seats,
         } = self;
-        callers.as_mut_slice().reverse();
-        workers.as_mut_slice().reverse();
+        turn(&mut callers);
+        turn(&mut workers);
         seat_workers(workers, &mut seats);
         seat_callers(callers, &mut seats);
         let Graph { book, .. } = graph;

@@ -1,7 +1,7 @@
 -- What the tests' calls of a store ask for.
-use Rattle.std.proofs.Common.{◌≡◌, ◌≤◌, arith, ℕ, ◌+◌, suc, Bool, true, false, ◌&&◌, ◌==◌, Option, Some, None, List, [], ◌∷◌, drop, slice_get, refl, sym, ap, subst, ◌∙◌, add-one, drop-cons, eq-eqb}
+use Rattle.std.proofs.Common.{◌≡◌, ◌≤◌, arith, ℕ, ◌+◌, suc, Bool, true, false, ◌&&◌, Option, Some, None, List, [], ◌∷◌, drop, slice_get, refl, sym, ap, subst, ◌∙◌, add-one, drop-cons, eq-eqb}
 use Rattle.std.specs.Prelude.{nat_lt, nat_eq, is_none}
-use Rattle.std.specs.List.{list_all, list_any}
+use Rattle.std.specs.List.{list_any}
 use Rattle.std.proofs.lemmas.Option.{slice_get_within, get_or_from_slice_get}
 use Rattle.flow_item.specs.declared.item.Item.{Item}
 use Rattle.flow_item.specs.Lists.{first}

@@ -44,7 +44,7 @@ by_values true below later older h = refl
 by_values false true later older h = refl
 by_values false false later older h = sym h
 
-goes-cmp-of : (a b : Val) (later : Ordering) (older : Bool) → is_lt later ≡ older → (outranks a b || (not (outranks b a) && older)) ≡ is_lt (ordering_then (option_cmp int_cmp (rank_of b) (rank_of a)) later)
+pub goes-cmp-of : (a b : Val) (later : Ordering) (older : Bool) → is_lt later ≡ older → (outranks a b || (not (outranks b a) && older)) ≡ is_lt (ordering_then (option_cmp int_cmp (rank_of b) (rank_of a)) later)
 goes-cmp-of (V.Int a) (V.Int b) later older h = by_values (int_lt b a) (int_lt a b) later older h
 goes-cmp-of (V.Int a) (V.Text b) later older h = refl
 goes-cmp-of (V.Int a) (V.List' n b) later older h = refl

@@ -1,6 +1,7 @@
 pub mod Firsts
 pub mod Laws
 pub mod LawsHold
+pub mod Marks
 pub mod Orders
 pub mod RankOrder
 pub mod Ranks

@@ -1,11 +1,13 @@
-ghost use Rattle.std.specs.Prelude.{◌≡◌, ◌+◌, ◌<◌, ◌≤◌, Some, None, [], ◌∷◌, ◌++◌, map, length};
+ghost use Rattle.std.specs.Prelude.{◌≡◌, ◌+◌, ◌<◌, ◌≤◌, Some, None, [], ◌∷◌, ◌++◌, map, length, OnOk};
 ghost use Rattle.std.specs.List.Sorted.{IsPermutation};
 ghost use Rattle.std.specs.BinaryHeap.{heap_items, heap_len, heap_capacity, IsHeap, IsUpperBound};
-ghost use Rattle.flow_store.specs.Ranks.{ranked_item};
+ghost use Rattle.flow_store.specs.Orders.{Once, number_of};
+ghost use Rattle.flow_store.specs.Ranks.{ranked_item, all_items};
 ghost use Rattle.flow_store.specs.RankOrder.{ranked_cmp};
+ghost use Rattle.flow_store.specs.Marks.{marks_from, TellsRanks};
 
 use crate::orders::{Order, Row, nth};
-use crate::ranked::{Locked, Ranked};
+use crate::ranked::{Locked, Mark, Ranked};
 use crate::store::{Store, Way};
 use flow_item::{Cause, Item, Land, NoMemory};
 use flow_machine::Claim;
@@ -22,10 +24,14 @@ struct Ranks {
 
 /// The items of a priority node in a binary heap, those of equal ranks by their numbers.
 ///
-/// With n items, `put`, `give`, `hold` and `free` cost at most log n, and `take` and `front` constant time. `items` and `at` cost the square of n.
+/// With n items, `put`, `give`, `hold` and `free` cost at most log n, and `take` and `front` constant time. `items` costs the square of n, and so does `at` unless the store was arranged since the last item came, went, was held or was freed. An arranged store answers it in constant time. To arrange it costs n log n, and memory for n places.
 #[derive(Drop)]
 pub struct RankStore {
     ranks: Ranks,
+    /// The places of the items, if sorted in the order of their ranks.
+    marks: Vec<Mark>,
+    /// Whether the marks are of the items that are there.
+    sorted: bool,
 }
 
 impl Model for RankStore {
@@ -48,7 +54,7 @@ impl Model for RankStore {
       spare = heap_capacity s.ranks.heap - (heap_len s.ranks.heap + locked_count s.ranks.locked);
     } };
 
-    ghost invariant = { λ s. KeepsRanks (heap_items s.ranks.heap) s.ranks.locked (heap_len s.ranks.heap) (heap_capacity s.ranks.heap) };
+    ghost invariant = { λ s. KeepsRanks (heap_items s.ranks.heap) s.ranks.locked (heap_len s.ranks.heap) (heap_capacity s.ranks.heap) s.marks.items s.sorted };
 }
 
 /// Adds an item, for which there is room.
@@ -106,6 +112,32 @@ impl Row for Ranks {
     }
 }
 
+/// Makes the marks those of a row of items.
+fn fill_marks(ranks: &Ranks, marks: &mut Vec<Mark>) -> Result<(), NoMemory>
+    ensures { OnOk result (marks.new.items ≡ marks_from 0 (all_items (heap_items ranks.now.heap) ranks.now.locked)) }
+{
+    let count = ranks.count();
+    marks.clear();
+    match marks.reserve(count) {
+        Ok(()) => {}
+        Err(_) => return Err(NoMemory),
+    }
+    'fill: for place in 0..count {
+        marks.push_reserved(Mark::of(ranks.member(place), place));
+    }
+    Ok(())
+}
+
+/// Makes the marks tell the order of the ranks, at a cost of n log n for n items.
+fn mark_ranks(ranks: &Ranks, marks: &mut Vec<Mark>) -> Result<(), NoMemory>
+    requires { Once number_of (all_items (heap_items ranks.now.heap) ranks.now.locked) }
+    ensures { OnOk result (TellsRanks marks.new.items (all_items (heap_items ranks.now.heap) ranks.now.locked)) }
+{
+    fill_marks(ranks, marks)?;
+    marks.sort_unstable();
+    Ok(())
+}
+
 impl RankStore {
     /// A priority node with no items. Takes no memory.
     pub fn new(alloc: Global) -> RankStore
@@ -116,6 +148,8 @@ impl RankStore {
                 heap: BinaryHeap::new(alloc),
                 locked: None,
             },
+            marks: Vec::new(alloc),
+            sorted: false,
         }
     }
 
@@ -168,6 +202,7 @@ impl Store for RankStore {
     }
 
     fn put(&mut self, item: Item, _way: Way) -> Result<Land, (Item, Cause)> {
+        self.sorted = false;
         push_ranked(&mut self.ranks.heap, item);
         Ok(Land::Kept)
     }
@@ -183,19 +218,23 @@ impl Store for RankStore {
     }
 
     fn give(&mut self, _edge: u32, _no: u64) {
+        self.sorted = false;
         pop_ranked(&mut self.ranks.heap);
     }
 
     fn hold(&mut self, edge: u32, _no: u64) {
+        self.sorted = false;
         let item = pop_ranked(&mut self.ranks.heap);
         self.ranks.locked = Some(Locked { edge, item });
     }
 
     fn take(&mut self, _edge: u32, _no: u64) {
+        self.sorted = false;
         self.ranks.locked = None;
     }
 
     fn free(&mut self, _edge: u32, _no: u64) {
+        self.sorted = false;
         match self.ranks.locked.take() {
             Some(locked) => push_ranked(&mut self.ranks.heap, locked.item),
             None => unreachable!(),
@@ -211,10 +250,22 @@ impl Store for RankStore {
     }
 
     fn at(&self, k: usize) -> Option<&Item> {
-        nth(&self.ranks, Order::Rank, k)
+        if self.sorted {
+            match self.marks.get(k) {
+                Some(mark) => Some(self.ranks.member(mark.place)),
+                None => None,
+            }
+        } else {
+            nth(&self.ranks, Order::Rank, k)
+        }
     }
 
     fn arrange(&mut self) -> Result<(), NoMemory> {
+        if self.sorted {
+            return Ok(());
+        }
+        mark_ranks(&self.ranks, &mut self.marks)?;
+        self.sorted = true;
         Ok(())
     }
 }

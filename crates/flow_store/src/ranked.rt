@@ -1,9 +1,10 @@
-// An item that is compared by its rank, and the item that is locked.
+// An item that is compared by its rank, the item that is locked, and what the order of ranks needs of an item.
 ghost use Rattle.std.specs.Prelude.{◌≡◌};
 ghost use Rattle.flow_store.specs.Orders.{rank_of};
+ghost use Rattle.flow_store.specs.Marks.{mark_of};
 
 use flow_item::{Item, Val};
-use std::cmp::Ordering;
+use std::cmp::{Ordering, Reverse};
 
 /// An item that is the greater, the sooner it goes.
 #[derive(Drop)]
@@ -16,6 +17,26 @@ pub(crate) struct Ranked {
 pub(crate) struct Locked {
     pub(crate) edge: u32,
     pub(crate) item: Item,
+}
+
+/// The place of an item, which is the less, the sooner the item goes.
+#[derive(Clone, Copy, Drop, PartialEq, Eq, PartialOrd, Ord)]
+pub(crate) struct Mark {
+    rank: Reverse<Option<i64>>,
+    no: u64,
+    pub(crate) place: usize,
+}
+
+impl Mark {
+    pub(crate) fn of(item: &Item, place: usize) -> Mark
+        ensures { result ≡ mark_of place item.now }
+    {
+        Mark {
+            rank: Reverse(rank(&item.val)),
+            no: item.id.no,
+            place,
+        }
+    }
 }
 
 /// A whole number, or nothing for a text or a list.

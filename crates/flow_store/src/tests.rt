@@ -165,16 +165,47 @@ fn greatest_goes_first(rt: HostRuntime) -> Result<(), Fail> {
     Ok(())
 }
 
+fn number_at<S: Store>(store: &S, k: usize) -> Option<u64> {
+    Some(store.at(k)?.id.no)
+}
+
+#[test]
+fn ranks_are_arranged(rt: HostRuntime) -> Result<(), Fail> {
+    let mut store = RankStore::new(rt.alloc());
+    for (number, rank) in [(0, 3), (1, 8), (2, 3)] {
+        assert_eq!(rt;
+            put(&mut store, number, 0, Val::Int(rank), Way::Edge),
+            "kept"
+        );
+    }
+    store.arrange()?;
+    assert_eq!(rt;
+        (number_at(&store, 0), number_at(&store, 1)),
+        (Some(1), Some(0))
+    );
+    assert_eq!(rt;
+        (number_at(&store, 2), number_at(&store, 3)),
+        (Some(2), None)
+    );
+    assert_eq!(rt; put(&mut store, 3, 0, Val::Int(5), Way::Edge), "kept");
+    assert_eq!(rt;
+        (number_at(&store, 1), number_at(&store, 3)),
+        (Some(3), Some(2))
+    );
+    store.arrange()?;
+    assert_eq!(rt;
+        (number_at(&store, 1), number_at(&store, 3)),
+        (Some(3), Some(2))
+    );
+    Ok(())
+}
+
 // As `give`, while a tag is left.
 fn give_next(store: &mut SeqStore) -> Option<u64> {
     if store.next() == LAST {
         return None;
     }
     give(store)
-}
-
-fn number_at(store: &SeqStore, k: usize) -> Option<u64> {
-    Some(store.at(k)?.id.no)
 }
 
 #[test]

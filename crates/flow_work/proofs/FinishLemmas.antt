@@ -1,5 +1,5 @@
 -- The end of the body that the worker runs.
-use Rattle.std.proofs.Common.{◌≡◌, ℕ, zero, suc, ◌<◌, lt-ltb, Bool, true, false, cond, ◌&&◌, Option, Some, None, List, [], ◌∷◌, ◌++◌, length, map, refl, sym, ap, ◌∙◌, subst, arith}
+use Rattle.std.proofs.Common.{◌≡◌, ℕ, zero, suc, ◌<◌, lt-ltb, Bool, true, false, cond, ◌&&◌, Option, Some, None, List, [], ◌∷◌, ◌++◌, length, refl, sym, ap, ◌∙◌, subst}
 use Rattle.std.specs.Prelude.{slice_get, slice_index_or, nat_lt}
 use Rattle.std.proofs.lemmas.Bool.{ltb-true}
 use Rattle.flow_item.specs.Values.{fits}
@@ -18,11 +18,10 @@ use Rattle.flow_item.specs.Lists.{is_empty}
 use Rattle.flow_item.proofs.Tests.{and_left, both_true}
 use Rattle.flow_shape.specs.declared.Kind.{Kind}
 use Rattle.flow_shape.specs.Kinds.{is_async, is_input}
-use Rattle.flow_machine.specs.State.{PlacedNode, Part}
+use Rattle.flow_machine.specs.State.{PlacedNode}
 use Rattle.flow_machine.specs.Enabled.{is_numbered, at_most_one}
 use Rattle.flow_machine.specs.Machine.{is_legal, may_follow, state_of}
-use Rattle.flow_machine.specs.Schedule.{is_next, next_after, is_end, is_event}
-use Rattle.flow_machine.specs.WishEvents.{placed_at}
+use Rattle.flow_machine.specs.Schedule.{next_after, is_event}
 use Rattle.flow_item.specs.declared.val.Val.{Val}
 use Rattle.flow_item.specs.Values.{same_msgs}
 use Rattle.flow_machine.specs.Bodies.{Meanings, answers, body_kept, at_kind, end_kept}

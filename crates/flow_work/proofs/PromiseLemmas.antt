@@ -23,7 +23,7 @@ use Rattle.flow_doc.specs.Fits.{doc_fits, kind_fits, step_fits}
 use Rattle.flow_node.specs.Built.{is_built}
 use Rattle.flow_work.specs.declared.plain.Ending.TheVariants as N
 use Rattle.flow_work.specs.declared.run.Refusal.TheVariants as R
-use Rattle.flow_machine.specs.Bodies.{Meanings, bodies_kept}
+use Rattle.flow_machine.specs.Bodies.{Meanings}
 use Rattle.flow_machine.specs.Settled.{IsSettled}
 use Rattle.flow_fates.proofs.OneFateLaw.{one-fate}
 use Rattle.flow_fates.proofs.LineageLaw.{lineages-end}

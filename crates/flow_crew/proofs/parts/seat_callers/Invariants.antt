@@ -1,4 +1,4 @@
-use Rattle.std.proofs.Common.{◌≡◌, ◌+◌, ◌≤◌, ◌++◌, length, map, reverse}
+use Rattle.std.proofs.Common.{◌≡◌, ◌≤◌, ◌++◌, length, map, reverse}
 use Rattle.flow_crew.proofs.parts.seat_callers.Given as goal
 
 -- with those that are left, there are as many as at the start

@@ -1,5 +1,5 @@
-use Rattle.std.proofs.Common.{◌≡◌, ◌+◌, ◌-◌, ◌≤◌, [], length, refl, sym, ap, ◌∙◌, arith}
-use Rattle.flow_crew.proofs.Lists.{one-given, all-given, one-shorter}
+use Rattle.std.proofs.Common.{ap, ◌∙◌, arith}
+use Rattle.flow_crew.proofs.Lists.{one-given, one-shorter}
 use Rattle.flow_crew.proofs.parts.seat_workers.Goals as goal
 
 pub loop-worker-preserved : goal.loop-worker-preserved

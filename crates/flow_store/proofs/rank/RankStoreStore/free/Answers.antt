@@ -1,4 +1,4 @@
-use Rattle.std.proofs.Common.{◌≡◌, Option, ◌+◌, ◌≤◌, Some, None, sym, ap, ◌∙◌, subst, arith, heap_items, heap_len}
+use Rattle.std.proofs.Common.{◌≡◌, false, Option, ◌+◌, ◌≤◌, Some, None, sym, ap, ◌∙◌, subst, arith, heap_items, heap_len}
 use Rattle.std.specs.BinaryHeap.{heap_capacity}
 use Rattle.std.specs.Option.{option_map}
 use Rattle.flow_machine.specs.State.{store_part}
@@ -23,8 +23,8 @@ invariant_of-self c =
     let some : i.locked ≡ Some c.in-Some.locked = sym c.take.ensures.value ∙ c.in-Some.is in
     let room : heap_len i.heap + 1 ≤ heap_capacity i.heap = subst (λ (o : Option Locked). heap_len i.heap + locked_count o ≤ heap_capacity i.heap) some c.self.invariant.room in
     let fits : heap_len c.push_ranked.new.heap + 0 ≤ heap_capacity c.push_ranked.new.heap = omega (arith, c.push_ranked.ensures.len, c.push_ranked.ensures.capacity) in
-    subst (λ (o : Option Locked). KeepsRanks (heap_items c.push_ranked.new.heap) o (heap_len c.push_ranked.new.heap) (heap_capacity c.push_ranked.new.heap)) (sym c.take.ensures.after)
-    record { ordered = c.push_ranked.ensures.ordered; once = (freed c).once; room = fits }
+    subst (λ (o : Option Locked). KeepsRanks (heap_items c.push_ranked.new.heap) o (heap_len c.push_ranked.new.heap) (heap_capacity c.push_ranked.new.heap) c.self.inside.marks.items false) (sym c.take.ensures.after)
+    record { ordered = c.push_ranked.ensures.ordered; once = (freed c).once; room = fits; told = λ h. let never : ⊥ = cc in absurd never }
 
 pub returns-clause-part : goal.returns-clause-part
 returns-clause-part c =

@@ -20,6 +20,7 @@ invariant_of-self c = record {
   ordered = c.pop_ranked.ensures.ordered;
   once = (given c).once;
   room = omega (arith, c.pop_ranked.ensures.len, c.pop_ranked.ensures.capacity, c.self.invariant.room);
+  told = λ h. let never : ⊥ = cc in absurd never;
 }
 
 pub returns-clause-part : goal.returns-clause-part

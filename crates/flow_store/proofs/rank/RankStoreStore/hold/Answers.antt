@@ -23,6 +23,7 @@ invariant_of-self c = record {
   ordered = c.pop_ranked-item.ensures.ordered;
   once = (held c).once;
   room = omega (arith, c.pop_ranked-item.ensures.len, c.pop_ranked-item.ensures.capacity, c.self.invariant.room);
+  told = λ h. let never : ⊥ = cc in absurd never;
 }
 
 pub returns-clause-part : goal.returns-clause-part

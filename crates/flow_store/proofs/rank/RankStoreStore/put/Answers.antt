@@ -21,6 +21,7 @@ invariant_of-self c =
       room =
           let spare = ap (λ (v : RoomyRanks). v.spare) c.self.view_is in
           omega (arith, c.push_ranked.ensures.len, c.push_ranked.ensures.capacity, c.self.invariant.room, c.requires.room);
+      told = λ h. let never : ⊥ = cc in absurd never;
     }
 
 pub returns-clause-after : goal.returns-clause-after

@@ -29,6 +29,7 @@ invariant_of-self c = record {
   ordered = c.self.invariant.ordered;
   once = (taken c).once;
   room = omega (arith, c.self.invariant.room);
+  told = λ h. let never : ⊥ = cc in absurd never;
 }
 
 pub returns-clause-part : goal.returns-clause-part

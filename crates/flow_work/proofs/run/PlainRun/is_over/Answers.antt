@@ -1,4 +1,4 @@
-use Rattle.std.proofs.Common.{◌≡◌, ◌+◌, ◌^◌, nat_lt, sym, ap, ◌∙◌}
+use Rattle.std.proofs.Common.{◌+◌, ◌^◌, nat_lt, ap, ◌∙◌}
 use Rattle.flow_item.specs.Events.{births}
 use Rattle.flow_work.specs.Runs.{Run}
 use Rattle.flow_work.proofs.LimitLemmas.{over-seen}

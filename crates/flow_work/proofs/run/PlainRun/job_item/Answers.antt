@@ -1,8 +1,7 @@
-use Rattle.std.proofs.Common.{◌≡◌, Option, Some, None, List, sym, ap, ◌∙◌, subst}
+use Rattle.std.proofs.Common.{◌≡◌, Some, sym, ap, ◌∙◌, subst}
 use Rattle.std.specs.Prelude.{slice_get}
 use Rattle.std.specs.List.{find}
 use Rattle.std.specs.Option.{option_copied}
-use Rattle.flow_item.specs.declared.item.Item.{Item}
 use Rattle.flow_shape.specs.declared.Kind.{Kind}
 use Rattle.flow_machine.specs.Enabled.{is_numbered}
 use Rattle.flow_machine.specs.Machine.{state_of}

@@ -1,6 +1,5 @@
-use Rattle.std.proofs.Common.{◌≡◌, Option, Some, None, sym, ap, ◌∙◌, subst}
+use Rattle.std.proofs.Common.{sym, ap, ◌∙◌, subst}
 use Rattle.std.specs.Option.{option_copied}
-use Rattle.flow_shape.specs.declared.Kind.{Kind}
 use Rattle.flow_work.specs.Runs.{Run}
 use Rattle.flow_work.specs.Tasks.{Runs}
 use Rattle.flow_work.proofs.FinishLemmas.{running, never-none}

@@ -1,4 +1,4 @@
-use Rattle.std.proofs.Common.{◌≡◌, length, sym, ap, ◌∙◌, subst}
+use Rattle.std.proofs.Common.{sym, ap, ◌∙◌, subst}
 use Rattle.flow_machine.specs.State.{PlacedNode}
 use Rattle.flow_work.specs.Runs.{Run}
 use Rattle.flow_work.specs.Tasks.{Runs}

@@ -1,0 +1,6 @@
+pub mod Answered
+pub mod BodyLemmas
+pub mod Born
+pub mod Changed
+pub mod Closed
+pub mod Following
