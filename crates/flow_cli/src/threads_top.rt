@@ -2,7 +2,7 @@
 ghost use Rattle.std.specs.Prelude.{◌≡◌, ◌⊎◌, ◌<◌, ◌≤◌, None, Some, true, length, map, string_bytes};
 ghost use Rattle.flow_io.specs.Streams.{Rose};
 ghost use Rattle.flow_work.specs.Promises.{IsFresh};
-ghost use Rattle.flow_cli.specs.Checked.{ShowsMeaning};
+ghost use Rattle.flow_cli.specs.Checked.{HasMeaning};
 ghost use Rattle.flow_cli.specs.Plain.{KeepsDocument, FollowsCallers, HeedsCallers, AgreesThroughout, IsPrinted, IsCaused, IsDue};
 ghost use Rattle.flow_cli.specs.RunWords.{run_asked, run_options};
 ghost use Rattle.flow_cli.specs.Threads.{IsThreadedAnswer, IsThreadedRun, IsRefusedThen, OfThreads};
@@ -80,7 +80,7 @@ pub fn flow_top<R: Threads + Wait + Sync, S: Source, K: Sink, B: Bodies, G: Gate
     ensures write { result ≡ Status.Write → Rose (K.faults sink.old) (K.faults sink.new) (K.is_full sink.new) }
     ensures complete { (Rose (S.faults source.old) (S.faults source.new) (S.is_full source.new) → ⊥) → (Rose (K.faults sink.old) (K.faults sink.new) (K.is_full sink.new) → ⊥)
         → (result ≡ Status.Memory) ⊎ IsDue (map (λ b. b.name) shelf.now.bodies.items) (run_options (map string_bytes words.now)) (S.left source.old) result }
-    ensures meaning { result ≡ Status.Done → ShowsMeaning (B.meanings bodies.now) kept.new }
+    ensures meaning { result ≡ Status.Done → HasMeaning (B.meanings bodies.now) kept.new }
 {
     match run_words(alloc, words) {
         Ok(Some(asked)) => threaded_line(rt, alloc, asked, source, sink, shelf, bodies, gate, kept),
