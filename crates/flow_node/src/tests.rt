@@ -67,17 +67,17 @@ fn first_node(alloc: Global, kind: Kind) -> Result<NodeState, NoMemory>
     NodeState::new(alloc, 0, &shape)
 }
 
-/// A caller puts a number to node 0.
-fn put(node: &mut NodeState, tag: u64, val: i64) -> Result<(), NoMemory>
+/// A caller puts a number to a port of node 0.
+fn put(node: &mut NodeState, port: u32, tag: u64, val: i64) -> Result<(), NoMemory>
     requires number { node.old.node.place.node ≡ 0 }
-    requires callers { is_for_callers node.old.node.place.kind 0 ≡ true }
+    requires callers { is_for_callers node.old.node.place.kind port ≡ true }
     ensures { node.new.node.place ≡ node.old.node.place }
 {
-    let answer = node.put_answer(0, tag);
+    let answer = node.put_answer(port, tag);
     let e = Event::Put {
         caller: 0,
         node: 0,
-        port: 0,
+        port,
         tag,
         val: Val::Int(val),
         answer,
@@ -202,8 +202,8 @@ fn a_queue_passes_its_items_on(rt: HostRuntime) -> Result<(), Fail> {
     let alloc = rt.alloc();
     let mut node = first_node(alloc, Kind::Queue { capacity: None })?;
     assert!(rt; !node.due() && matches!(node.wish(), Wish::Nothing));
-    put(&mut node, 9, 5)?;
-    put(&mut node, 8, 6)?;
+    put(&mut node, 0, 9, 5)?;
+    put(&mut node, 0, 8, 6)?;
     assert_eq!(rt;
         (node.made(), node.item_count(), node.open_parts()),
         (2, 2, 1)
@@ -229,8 +229,8 @@ fn a_function_runs_its_bodies(rt: HostRuntime) -> Result<(), Fail> {
         arg: Val::Int(3),
     };
     let mut node = first_node(alloc, kind)?;
-    put(&mut node, 9, 5)?;
-    put(&mut node, 8, 6)?;
+    put(&mut node, 0, 9, 5)?;
+    put(&mut node, 0, 8, 6)?;
     assert_eq!(rt;
         (node.made(), node.open_parts(), node.item_count()),
         (2, 2, 0)
@@ -258,5 +258,121 @@ fn a_function_runs_its_bodies(rt: HostRuntime) -> Result<(), Fail> {
     assert_eq!(rt; start(&mut node)?, Some(1));
     assert!(rt; end(&mut node, 1, Outs::new(alloc))?);
     assert!(rt; idle(&mut node)? && node.open_parts() == 0 && node.item(1).is_none());
+    Ok(())
+}
+
+/// The values that go over edge 0 of node 0 after four puts, in three gives, and how many items are left.
+fn passed(
+    alloc: Global,
+    node: &mut NodeState,
+) -> Result<((Option<i64>, Option<i64>, Option<i64>), usize), NoMemory>
+    requires number { node.old.node.place.node ≡ 0 }
+    requires callers { is_for_callers node.old.node.place.kind 0 ≡ true }
+    requires first { is_wired node.old.node.place record { edge = 0; from = 0; to = 1; port = 0 } ≡ true }
+{
+    put(node, 0, 1, 5)?;
+    put(node, 0, 3, 9)?;
+    put(node, 0, 0, 7)?;
+    put(node, 0, 1, 8)?;
+    let first = number(give(alloc, node, link(0, 1))?);
+    let second = number(give(alloc, node, link(0, 1))?);
+    let third = number(give(alloc, node, link(0, 1))?);
+    Ok(((first, second, third), node.item_count()))
+}
+
+#[test]
+fn stores_pass_their_items_on(rt: HostRuntime) -> Result<(), Fail> {
+    let alloc = rt.alloc();
+    let mut buffer = first_node(alloc, Kind::Buffer { capacity: None })?;
+    assert_eq!(rt;
+        passed(alloc, &mut buffer)?,
+        ((Some(5), Some(9), Some(7)), 1)
+    );
+    let mut priority = first_node(alloc, Kind::Priority)?;
+    assert_eq!(rt;
+        passed(alloc, &mut priority)?,
+        ((Some(9), Some(8), Some(7)), 1)
+    );
+    let mut sequencer = first_node(alloc, Kind::Sequencer)?;
+    assert_eq!(rt;
+        passed(alloc, &mut sequencer)?,
+        ((Some(7), Some(5), None), 1)
+    );
+    Ok(())
+}
+
+/// The number of the tuple that node 0 forms, where it can form one.
+fn form(node: &mut NodeState) -> Result<Option<u64>, NoMemory>
+    requires number { node.old.node.place.node ≡ 0 }
+    ensures { node.new.node.place ≡ node.old.node.place }
+{
+    let (no, parts) = match node.event(None, 0, Wish::Form)? {
+        Some(Event::Form { no, parts, .. }) => (no, parts),
+        _ => return Ok(None),
+    };
+    let e = Event::Form { node: 0, no, parts };
+    node.prepare(&e)?;
+    node.apply_one(&e);
+    Ok(Some(no))
+}
+
+fn pair(val: Option<Val>) -> Option<(i64, i64)> {
+    match val {
+        Some(Val::List(parts)) => match (parts.get(0), parts.get(1)) {
+            (Some(Val::Int(first)), Some(Val::Int(second))) => Some((*first, *second)),
+            _ => None,
+        },
+        _ => None,
+    }
+}
+
+#[test]
+fn a_queueing_join_offers_its_tuple_until_all_have_it(rt: HostRuntime) -> Result<(), Fail> {
+    let alloc = rt.alloc();
+    let mut node = first_node(alloc, Kind::QueueJoin { ports: 2 })?;
+    put(&mut node, 1, 7, 10)?;
+    assert_eq!(rt; form(&mut node)?, None);
+    put(&mut node, 0, 8, 20)?;
+    put(&mut node, 0, 9, 30)?;
+    put(&mut node, 1, 9, 40)?;
+    assert!(rt; matches!(node.wish(), Wish::Form) && !node.at_rest());
+    assert_eq!(rt; (form(&mut node)?, form(&mut node)?), (Some(4), None));
+    assert_eq!(rt; node.item(4).map(|item| item.tag), Some(8));
+    assert_eq!(rt; (offer(&node), shut(&mut node)?), (Some((0, 4)), None));
+    assert_eq!(rt; pair(give(alloc, &mut node, link(0, 1))?), Some((20, 10)));
+    assert_eq!(rt; (offer(&node), shut(&mut node)?), (Some((1, 4)), None));
+    assert_eq!(rt; pair(give(alloc, &mut node, link(1, 2))?), Some((20, 10)));
+    assert_eq!(rt; shut(&mut node)?, Some((4, true)));
+    assert_eq!(rt; (form(&mut node)?, node.made()), (Some(5), 6));
+    assert_eq!(rt; (node.open_parts(), node.item_count()), (1, 0));
+    Ok(())
+}
+
+/// The next tuple of node 0, which goes over both edges.
+fn tuple(alloc: Global, node: &mut NodeState) -> Result<Option<(i64, i64)>, NoMemory>
+    requires number { node.old.node.place.node ≡ 0 }
+    requires first { is_wired node.old.node.place record { edge = 0; from = 0; to = 1; port = 0 } ≡ true }
+    requires second { is_wired node.old.node.place record { edge = 1; from = 0; to = 2; port = 0 } ≡ true }
+    ensures { node.new.node.place ≡ node.old.node.place }
+{
+    form(node)?;
+    let given = give(alloc, node, link(1, 2))?;
+    give(alloc, node, link(0, 1))?;
+    shut(node)?;
+    Ok(pair(given))
+}
+
+#[test]
+fn a_key_join_matches_its_least_tag(rt: HostRuntime) -> Result<(), Fail> {
+    let alloc = rt.alloc();
+    let mut node = first_node(alloc, Kind::KeyJoin { ports: 2 })?;
+    put(&mut node, 1, 7, 10)?;
+    put(&mut node, 0, 9, 20)?;
+    put(&mut node, 0, 5, 30)?;
+    put(&mut node, 1, 9, 40)?;
+    put(&mut node, 1, 5, 50)?;
+    assert_eq!(rt; tuple(alloc, &mut node)?, Some((30, 50)));
+    assert_eq!(rt; tuple(alloc, &mut node)?, Some((20, 40)));
+    assert_eq!(rt; tuple(alloc, &mut node)?, None);
     Ok(())
 }
