@@ -5,3 +5,6 @@ pub mod Changed
 pub mod Closed
 pub mod Following
 pub mod Sent
+pub mod SentBook
+pub mod SentGraph
+pub mod SentNodes

@@ -45,6 +45,18 @@ kind-send = search (crosses, knot.crosses, items.the_send, text.the_send, sendab
 pub run-send : IsSend R.the_row
 run-send = search (crosses, kind-send, edge.the_send, edge.the_field_send, items.the_send, sendable) depth 60 fits 200000
 
+pub outs-sync : IsSync O.the_row
+outs-sync = search (crosses, knot.crosses, items.the_sync, sendable) depth 60 fits 20000
+
+pub event-sync : IsSync E.the_row
+event-sync = search (crosses, knot.crosses, outs-sync, ids.the_sync, text.the_sync, sendable) depth 60 fits 200000
+
+pub kind-sync : IsSync K.the_row
+kind-sync = search (crosses, knot.crosses, items.the_sync, text.the_sync, sendable) depth 60 fits 200000
+
+pub run-sync : IsSync R.the_row
+run-sync = search (crosses, kind-sync, edge.the_sync, edge.the_field_sync, items.the_sync, sendable) depth 60 fits 200000
+
 module _ (B : RattleType) (n : Naming.Ghosts B.Denot) where
   pub worker-send : IsSend (W.the_row B n)
   worker-send = declared_send (W.the_type B n) (search (crosses, chair.the_send, post.the_send, event-send, sendable) depth 30)
