@@ -4,3 +4,7 @@ pub mod Born
 pub mod Changed
 pub mod Closed
 pub mod Following
+pub mod Sent
+pub mod SentBook
+pub mod SentGraph
+pub mod SentNodes
