@@ -1,5 +1,6 @@
 // The top call of the command that waits.
 ghost use Rattle.std.specs.Prelude.{◌≡◌, ◌⊎◌, ◌<◌, ◌≤◌, None, Some, true, length, map, string_bytes};
+ghost use Rattle.flow_determinacy.specs.Singles.{SinglesAnswerOnce};
 ghost use Rattle.flow_io.specs.Streams.{Rose};
 ghost use Rattle.flow_work.specs.Promises.{IsFresh};
 ghost use Rattle.flow_cli.specs.Checked.{HasMeaning};
@@ -48,6 +49,13 @@ fn threaded_line<R: Threads + Wait + Sync, S: Source, K: Sink, B: Bodies, G: Gat
     }
 }
 
+// A body that is pure and single answers one message.
+fn answer_once<B: Bodies>(bodies: &B)
+    ensures { SinglesAnswerOnce (B.meanings bodies.now) }
+{
+    let _ = bodies;
+}
+
 /// Serves the command `run`, and refuses all other words. It reads the source, runs the document on threads, keeps what
 /// came of it and writes the report, or the line of the first thing that was wrong. The document's callers follow their
 /// scripts, and so many workers as the words ask for serve the nodes; a caller that waits serves too, as a worker of its
@@ -82,6 +90,7 @@ pub fn flow_top<R: Threads + Wait + Sync, S: Source, K: Sink, B: Bodies, G: Gate
         → (result ≡ Status.Memory) ⊎ IsDue (map (λ b. b.name) shelf.now.bodies.items) (run_options (map string_bytes words.now)) (S.left source.old) result }
     ensures meaning { result ≡ Status.Done → HasMeaning (B.meanings bodies.now) kept.new }
 {
+    answer_once(bodies);
     match run_words(alloc, words) {
         Ok(Some(asked)) => threaded_line(rt, alloc, asked, source, sink, shelf, bodies, gate, kept),
         Ok(None) => say(sink, words_text(), Status::Words),

@@ -51,7 +51,7 @@ returns-in-Ok-Some-clause-complete g c = λ source sink.
     rw asked (completes _ _ _ _ _ _ _ _ c.threaded_line.ensures.answer.printed c.threaded_line.ensures.answer.document (λ e. source (c.threaded_line.ensures.read e)) (λ e. sink (c.threaded_line.ensures.write e)))
 
 pub returns-in-Ok-Some-clause-meaning : goal.returns-in-Ok-Some-clause-meaning
-returns-in-Ok-Some-clause-meaning g c = λ done. threaded_shows _ _ _ _ _ _ _ _ _ c.threaded_line.ensures.answer done (g.B.Bodies.answers_once c.args.bodies.now)
+returns-in-Ok-Some-clause-meaning g c = λ done. threaded_shows _ _ _ _ _ _ _ _ _ c.threaded_line.ensures.answer done c.answer_once.ensures
 
 pub returns-in-Ok-None-clause-meaning : goal.returns-in-Ok-None-clause-meaning
 returns-in-Ok-None-clause-meaning g c = λ done doc is determined. absurd (unlike_none _ _ c.requires.none is)
