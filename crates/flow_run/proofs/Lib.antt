@@ -8,3 +8,4 @@ pub mod Sent
 pub mod SentBook
 pub mod SentGraph
 pub mod SentNodes
+pub mod SentSite

@@ -32,30 +32,36 @@ use std::sync::Wait;
 use std::thread;
 use std::thread::Threads;
 
+// What those who take part in a run share.
+#[derive(Drop)]
+struct Site<'a, R: Wait, S: Bodies, G: Gate, B: Naming> {
+    alloc: Global,
+    rt: &'a R,
+    doc: &'a Doc,
+    graph: &'a Graph<'a, S, G, B>,
+}
+
 // All callers follow their scripts, each in a thread of its own where one can be made.
 fn follow_all<B: Naming + Send + Sync, R: Threads + Wait + Sync, S: Bodies, G: Gate>(
-    rt: &R,
-    alloc: Global,
-    doc: &Doc,
-    graph: &Graph<S, G, B>,
+    site: &Site<R, S, G, B>,
     callers: &mut [Caller<B>],
 )
-    requires scripts { (graph.now.book.run.callers ≡ length doc.now.scripts) × (list_all (list_all (is_good_step graph.now.book.run.shape)) doc.now.scripts ≡ true) }
-    requires ready { All (λ c. IsCaller (S.meanings graph.now.bench.bodies.now) graph.now.book.run graph.now.book.items graph.now.book.events c.chair × IsWorker (S.meanings graph.now.bench.bodies.now) graph.now.book.run graph.now.book.items graph.now.book.events c.worker.chair c.worker.busy × IsPostOf graph.now.pool c.worker.post × (may_call graph.now.book.run c.chair ≡ true) × IsNew c.chair) callers.old }
-    ensures followed { All (λ c. IsCaller (S.meanings graph.now.bench.bodies.now) graph.now.book.run graph.now.book.items graph.now.book.events c.chair × IsWorker (S.meanings graph.now.bench.bodies.now) graph.now.book.run graph.now.book.items graph.now.book.events c.worker.chair c.worker.busy × FollowsOwn graph.now.book.run.shape doc.now.scripts c.chair) callers.new }
+    requires scripts { (site.now.graph.now.book.run.callers ≡ length site.now.doc.now.scripts) × (list_all (list_all (is_good_step site.now.graph.now.book.run.shape)) site.now.doc.now.scripts ≡ true) }
+    requires ready { All (λ c. IsCaller (S.meanings site.now.graph.now.bench.bodies.now) site.now.graph.now.book.run site.now.graph.now.book.items site.now.graph.now.book.events c.chair × IsWorker (S.meanings site.now.graph.now.bench.bodies.now) site.now.graph.now.book.run site.now.graph.now.book.items site.now.graph.now.book.events c.worker.chair c.worker.busy × IsPostOf site.now.graph.now.pool c.worker.post × (may_call site.now.graph.now.book.run c.chair ≡ true) × IsNew c.chair) callers.old }
+    ensures followed { All (λ c. IsCaller (S.meanings site.now.graph.now.bench.bodies.now) site.now.graph.now.book.run site.now.graph.now.book.items site.now.graph.now.book.events c.chair × IsWorker (S.meanings site.now.graph.now.bench.bodies.now) site.now.graph.now.book.run site.now.graph.now.book.items site.now.graph.now.book.events c.worker.chair c.worker.busy × FollowsOwn site.now.graph.now.book.run.shape site.now.doc.now.scripts c.chair) callers.new }
     ensures parties { map (λ c. c.chair.party) callers.new ≡ map (λ c. c.chair.party) callers.old }
     ensures waiters { map (λ c. c.worker.chair.party) callers.new ≡ map (λ c. c.worker.chair.party) callers.old }
 {
     thread::for_each_mut(
-        rt,
+        site.rt,
         callers,
         64,
         &|_, caller: &mut Caller<B>|
-            requires ready { IsCaller (S.meanings graph.now.bench.bodies.now) graph.now.book.run graph.now.book.items graph.now.book.events caller.old.chair × IsWorker (S.meanings graph.now.bench.bodies.now) graph.now.book.run graph.now.book.items graph.now.book.events caller.old.worker.chair caller.old.worker.busy × IsPostOf graph.now.pool caller.old.worker.post × (may_call graph.now.book.run caller.old.chair ≡ true) × IsNew caller.old.chair }
-            requires scripts { (graph.now.book.run.callers ≡ length doc.now.scripts) × (list_all (list_all (is_good_step graph.now.book.run.shape)) doc.now.scripts ≡ true) }
-            ensures followed { IsCaller (S.meanings graph.entry.now.bench.bodies.now) graph.entry.now.book.run graph.entry.now.book.items graph.entry.now.book.events caller.new.chair × IsWorker (S.meanings graph.entry.now.bench.bodies.now) graph.entry.now.book.run graph.entry.now.book.items graph.entry.now.book.events caller.new.worker.chair caller.new.worker.busy × FollowsOwn graph.entry.now.book.run.shape doc.entry.now.scripts caller.new.chair }
+            requires ready { IsCaller (S.meanings site.now.graph.now.bench.bodies.now) site.now.graph.now.book.run site.now.graph.now.book.items site.now.graph.now.book.events caller.old.chair × IsWorker (S.meanings site.now.graph.now.bench.bodies.now) site.now.graph.now.book.run site.now.graph.now.book.items site.now.graph.now.book.events caller.old.worker.chair caller.old.worker.busy × IsPostOf site.now.graph.now.pool caller.old.worker.post × (may_call site.now.graph.now.book.run caller.old.chair ≡ true) × IsNew caller.old.chair }
+            requires scripts { (site.now.graph.now.book.run.callers ≡ length site.now.doc.now.scripts) × (list_all (list_all (is_good_step site.now.graph.now.book.run.shape)) site.now.doc.now.scripts ≡ true) }
+            ensures followed { IsCaller (S.meanings site.entry.now.graph.now.bench.bodies.now) site.entry.now.graph.now.book.run site.entry.now.graph.now.book.items site.entry.now.graph.now.book.events caller.new.chair × IsWorker (S.meanings site.entry.now.graph.now.bench.bodies.now) site.entry.now.graph.now.book.run site.entry.now.graph.now.book.items site.entry.now.graph.now.book.events caller.new.worker.chair caller.new.worker.busy × FollowsOwn site.entry.now.graph.now.book.run.shape site.entry.now.doc.now.scripts caller.new.chair }
             ensures party { (caller.new.chair.party ≡ caller.old.chair.party) × (caller.new.worker.chair.party ≡ caller.old.worker.chair.party) }
-        { follow(alloc, rt, graph, caller, doc) },
+        { follow(site.alloc, site.rt, site.graph, caller, site.doc) },
     );
 }
 
@@ -77,28 +83,55 @@ fn work<B: Naming, R: Wait, S: Bodies, G: Gate>(
 
 // All workers work, each in a thread of its own where one can be made.
 fn work_all<B: Naming + Send + Sync, R: Threads + Wait + Sync, S: Bodies, G: Gate>(
-    rt: &R,
-    alloc: Global,
-    graph: &Graph<S, G, B>,
+    site: &Site<R, S, G, B>,
     workers: &mut [Worker<B>],
 )
-    requires { All (λ w. IsWorker (S.meanings graph.now.bench.bodies.now) graph.now.book.run graph.now.book.items graph.now.book.events w.chair w.busy × IsPostOf graph.now.pool w.post) workers.old }
-    ensures worked { All (λ w. IsWorker (S.meanings graph.now.bench.bodies.now) graph.now.book.run graph.now.book.items graph.now.book.events w.chair w.busy × IsPostOf graph.now.pool w.post) workers.new }
+    requires { All (λ w. IsWorker (S.meanings site.now.graph.now.bench.bodies.now) site.now.graph.now.book.run site.now.graph.now.book.items site.now.graph.now.book.events w.chair w.busy × IsPostOf site.now.graph.now.pool w.post) workers.old }
+    ensures worked { All (λ w. IsWorker (S.meanings site.now.graph.now.bench.bodies.now) site.now.graph.now.book.run site.now.graph.now.book.items site.now.graph.now.book.events w.chair w.busy × IsPostOf site.now.graph.now.pool w.post) workers.new }
     ensures parties { map (λ w. w.chair.party) workers.new ≡ map (λ w. w.chair.party) workers.old }
 {
     thread::for_each_mut(
-        rt,
+        site.rt,
         workers,
         64,
         &|_, worker: &mut Worker<B>|
-            requires { IsWorker (S.meanings graph.now.bench.bodies.now) graph.now.book.run graph.now.book.items graph.now.book.events worker.old.chair worker.old.busy × IsPostOf graph.now.pool worker.old.post }
-            ensures worked { IsWorker (S.meanings graph.entry.now.bench.bodies.now) graph.entry.now.book.run graph.entry.now.book.items graph.entry.now.book.events worker.new.chair worker.new.busy × IsPostOf graph.entry.now.pool worker.new.post }
+            requires { IsWorker (S.meanings site.now.graph.now.bench.bodies.now) site.now.graph.now.book.run site.now.graph.now.book.items site.now.graph.now.book.events worker.old.chair worker.old.busy × IsPostOf site.now.graph.now.pool worker.old.post }
+            ensures worked { IsWorker (S.meanings site.entry.now.graph.now.bench.bodies.now) site.entry.now.graph.now.book.run site.entry.now.graph.now.book.items site.entry.now.graph.now.book.events worker.new.chair worker.new.busy × IsPostOf site.entry.now.graph.now.pool worker.new.post }
             ensures party { worker.new.chair.party ≡ worker.old.chair.party }
-        { work(alloc, rt, graph, worker) },
+        { work(site.alloc, site.rt, site.graph, worker) },
     );
 }
 
 // All callers and workers together. Where no thread can be made, callers come first, who need no worker.
+fn join_parts<B: Naming + Send + Sync, R: Threads + Wait + Sync, S: Bodies, G: Gate>(
+    site: &Site<R, S, G, B>,
+    callers: &mut [Caller<B>],
+    workers: &mut [Worker<B>],
+)
+    requires scripts { (site.now.graph.now.book.run.callers ≡ length site.now.doc.now.scripts) × (list_all (list_all (is_good_step site.now.graph.now.book.run.shape)) site.now.doc.now.scripts ≡ true) }
+    requires ready { All (λ c. IsCaller (S.meanings site.now.graph.now.bench.bodies.now) site.now.graph.now.book.run site.now.graph.now.book.items site.now.graph.now.book.events c.chair × IsWorker (S.meanings site.now.graph.now.bench.bodies.now) site.now.graph.now.book.run site.now.graph.now.book.items site.now.graph.now.book.events c.worker.chair c.worker.busy × IsPostOf site.now.graph.now.pool c.worker.post × (may_call site.now.graph.now.book.run c.chair ≡ true) × IsNew c.chair) callers.old }
+    requires hired { All (λ w. IsWorker (S.meanings site.now.graph.now.bench.bodies.now) site.now.graph.now.book.run site.now.graph.now.book.items site.now.graph.now.book.events w.chair w.busy × IsPostOf site.now.graph.now.pool w.post) workers.old }
+    ensures followed { All (λ c. IsCaller (S.meanings site.now.graph.now.bench.bodies.now) site.now.graph.now.book.run site.now.graph.now.book.items site.now.graph.now.book.events c.chair × IsWorker (S.meanings site.now.graph.now.bench.bodies.now) site.now.graph.now.book.run site.now.graph.now.book.items site.now.graph.now.book.events c.worker.chair c.worker.busy × FollowsOwn site.now.graph.now.book.run.shape site.now.doc.now.scripts c.chair) callers.new }
+    ensures parties { map (λ c. c.chair.party) callers.new ≡ map (λ c. c.chair.party) callers.old }
+    ensures waiters { map (λ c. c.worker.chair.party) callers.new ≡ map (λ c. c.worker.chair.party) callers.old }
+    ensures worked { All (λ w. IsWorker (S.meanings site.now.graph.now.bench.bodies.now) site.now.graph.now.book.run site.now.graph.now.book.items site.now.graph.now.book.events w.chair w.busy × IsPostOf site.now.graph.now.pool w.post) workers.new }
+    ensures worker_parties { map (λ w. w.chair.party) workers.new ≡ map (λ w. w.chair.party) workers.old }
+{
+    let mut follow = ||
+        requires { IsSync R.row × (site.now.graph.now.book.run.callers ≡ length site.now.doc.now.scripts) × (list_all (list_all (is_good_step site.now.graph.now.book.run.shape)) site.now.doc.now.scripts ≡ true) × All (λ c. IsCaller (S.meanings site.now.graph.now.bench.bodies.now) site.now.graph.now.book.run site.now.graph.now.book.items site.now.graph.now.book.events c.chair × IsWorker (S.meanings site.now.graph.now.bench.bodies.now) site.now.graph.now.book.run site.now.graph.now.book.items site.now.graph.now.book.events c.worker.chair c.worker.busy × IsPostOf site.now.graph.now.pool c.worker.post × (may_call site.now.graph.now.book.run c.chair ≡ true) × IsNew c.chair) callers.now }
+        ensures followed { All (λ c. IsCaller (S.meanings site.entry.now.graph.now.bench.bodies.now) site.entry.now.graph.now.book.run site.entry.now.graph.now.book.items site.entry.now.graph.now.book.events c.chair × IsWorker (S.meanings site.entry.now.graph.now.bench.bodies.now) site.entry.now.graph.now.book.run site.entry.now.graph.now.book.items site.entry.now.graph.now.book.events c.worker.chair c.worker.busy × FollowsOwn site.entry.now.graph.now.book.run.shape site.entry.now.doc.now.scripts c.chair) callers.exit.now }
+        ensures parties { map (λ c. c.chair.party) callers.exit.now ≡ map (λ c. c.chair.party) callers.entry.now }
+        ensures waiters { map (λ c. c.worker.chair.party) callers.exit.now ≡ map (λ c. c.worker.chair.party) callers.entry.now }
+    { follow_all(site, callers) };
+    let mut work = ||
+        requires { IsSync R.row × All (λ w. IsWorker (S.meanings site.now.graph.now.bench.bodies.now) site.now.graph.now.book.run site.now.graph.now.book.items site.now.graph.now.book.events w.chair w.busy × IsPostOf site.now.graph.now.pool w.post) workers.now }
+        ensures worked { All (λ w. IsWorker (S.meanings site.entry.now.graph.now.bench.bodies.now) site.entry.now.graph.now.book.run site.entry.now.graph.now.book.items site.entry.now.graph.now.book.events w.chair w.busy × IsPostOf site.entry.now.graph.now.pool w.post) workers.exit.now }
+        ensures parties { map (λ w. w.chair.party) workers.exit.now ≡ map (λ w. w.chair.party) workers.entry.now }
+    { work_all(site, workers) };
+    thread::join_mut(site.rt, &mut work, &mut follow);
+}
+
+// The same, of what is shared.
 fn run_parts<B: Naming + Send + Sync, R: Threads + Wait + Sync, S: Bodies, G: Gate>(
     rt: &R,
     alloc: Global,
@@ -116,18 +149,13 @@ fn run_parts<B: Naming + Send + Sync, R: Threads + Wait + Sync, S: Bodies, G: Ga
     ensures worked { All (λ w. IsWorker (S.meanings graph.now.bench.bodies.now) graph.now.book.run graph.now.book.items graph.now.book.events w.chair w.busy × IsPostOf graph.now.pool w.post) workers.new }
     ensures worker_parties { map (λ w. w.chair.party) workers.new ≡ map (λ w. w.chair.party) workers.old }
 {
-    let mut follow = ||
-        requires { IsSync R.row × (graph.now.book.run.callers ≡ length doc.now.scripts) × (list_all (list_all (is_good_step graph.now.book.run.shape)) doc.now.scripts ≡ true) × All (λ c. IsCaller (S.meanings graph.now.bench.bodies.now) graph.now.book.run graph.now.book.items graph.now.book.events c.chair × IsWorker (S.meanings graph.now.bench.bodies.now) graph.now.book.run graph.now.book.items graph.now.book.events c.worker.chair c.worker.busy × IsPostOf graph.now.pool c.worker.post × (may_call graph.now.book.run c.chair ≡ true) × IsNew c.chair) callers.now }
-        ensures followed { All (λ c. IsCaller (S.meanings graph.entry.now.bench.bodies.now) graph.entry.now.book.run graph.entry.now.book.items graph.entry.now.book.events c.chair × IsWorker (S.meanings graph.entry.now.bench.bodies.now) graph.entry.now.book.run graph.entry.now.book.items graph.entry.now.book.events c.worker.chair c.worker.busy × FollowsOwn graph.entry.now.book.run.shape doc.entry.now.scripts c.chair) callers.exit.now }
-        ensures parties { map (λ c. c.chair.party) callers.exit.now ≡ map (λ c. c.chair.party) callers.entry.now }
-        ensures waiters { map (λ c. c.worker.chair.party) callers.exit.now ≡ map (λ c. c.worker.chair.party) callers.entry.now }
-    { follow_all(rt, alloc, doc, graph, callers) };
-    let mut work = ||
-        requires { IsSync R.row × All (λ w. IsWorker (S.meanings graph.now.bench.bodies.now) graph.now.book.run graph.now.book.items graph.now.book.events w.chair w.busy × IsPostOf graph.now.pool w.post) workers.now }
-        ensures worked { All (λ w. IsWorker (S.meanings graph.entry.now.bench.bodies.now) graph.entry.now.book.run graph.entry.now.book.items graph.entry.now.book.events w.chair w.busy × IsPostOf graph.entry.now.pool w.post) workers.exit.now }
-        ensures parties { map (λ w. w.chair.party) workers.exit.now ≡ map (λ w. w.chair.party) workers.entry.now }
-    { work_all(rt, alloc, graph, workers) };
-    thread::join_mut(rt, &mut work, &mut follow);
+    let site = Site {
+        alloc,
+        rt,
+        doc,
+        graph,
+    };
+    join_parts(&site, callers, workers);
 }
 
 // Whether all have left and nothing is open, and nothing was refused. The last worker looks.

@@ -1,8 +1,8 @@
 use Rattle.std.proofs.Common.{◌∙◌, sym, ap, rules}
 use denote.Param.Send.{sendable}
-use Rattle.std.proofs.Crossing.{crosses}
+
 use Rattle.flow_run.proofs.Sent.{caller-send}
-use Rattle.flow_run.proofs.SentGraph.{doc-sync, graph-sync}
+use Rattle.flow_run.proofs.SentSite.{site-sync}
 use Rattle.flow_run.proofs.Changed.{map-same}
 use Rattle.flow_run.proofs.run.follow_all.Goals as goal
 
@@ -10,7 +10,7 @@ pub for_each_mut-requires-send-T : goal.for_each_mut-requires-send-T
 for_each_mut-requires-send-T g c = λ κs _. search (caller-send, c.type_bounds, sendable) depth 20
 
 pub for_each_mut-requires-sync-F : goal.for_each_mut-requires-sync-F
-for_each_mut-requires-sync-F g c = λ κs _. search (graph-sync, doc-sync, c.type_bounds, crosses, sendable) depth 20
+for_each_mut-requires-sync-F g c = λ κs _. search (site-sync, c.type_bounds, sendable) depth 20
 
 pub returns-clause-parties : goal.returns-clause-parties
 returns-clause-parties g c = map-same (λ k. k.chair.party) c.args.callers.now c.for_each_mut.new.s (search rules)

@@ -1,7 +1,0 @@
-use Rattle.std.proofs.Common.{rules}
-use denote.Param.Send.{sendable}
-use Rattle.flow_run.proofs.Sent.{worker-send}
-use Rattle.flow_run.proofs.run.run_parts.Goals as goal
-
-pub join_mut-requires-send-F : goal.join_mut-requires-send-F
-join_mut-requires-send-F g c = λ κs _. search (worker-send, c.type_bounds, sendable) depth 20
