@@ -1,0 +1,6 @@
+mod Calls
+mod Nodes
+mod Sent
+mod SentNodes
+mod SentBook
+mod SentRow
