@@ -1,5 +1,5 @@
 -- A book over one node, and those who call it.
-use Rattle.std.specs.Prelude.{◌≡◌, ℕ, Bool, true, ◌&&◌, nat_eq, is_none, List, [], ◌∷◌, length}
+use Rattle.std.specs.Prelude.{◌≡◌, ℕ, Bool, true, ◌&&◌, nat_eq, is_none, [], ◌∷◌, length}
 use Rattle.std.specs.List.{list_all}
 use Rattle.flow_item.specs.declared.event.Event.{Event}
 use Rattle.flow_shape.specs.declared.Shape.{Shape}
