@@ -106,10 +106,11 @@ sent_of-append xs ys n = ap all_sent (projection-append parties_of (Caller n) xs
 -- what is followed is followed in each beginning
 pub follows-start : (shape : Shape) (scripts : List (List Step)) (xs es : List Event) → IsPrefix xs es → FollowsScripts shape scripts es → FollowsScripts shape scripts xs
 follows-start shape scripts xs es begins h n steps at =
-    let whole = h n steps at in
-    (sent_of begins.0 n ++ whole.0,
-    sym (append_assoc (sent_of xs n) (sent_of begins.0 n) whole.0)
-    ∙ (ap (λ ds. ds ++ whole.0) (sym (sent_of-append xs begins.0 n) ∙ ap (λ es. sent_of es n) begins.1) ∙ whole.1))
+    let whole = h n steps at in (
+      sent_of begins.0 n ++ whole.0,
+      sym (append_assoc (sent_of xs n) (sent_of begins.0 n) whole.0)
+          ∙ (ap (λ ds. ds ++ whole.0) (sym (sent_of-append xs begins.0 n) ∙ ap (λ es. sent_of es n) begins.1) ∙ whole.1),
+    )
 
 module _ (shape : Shape) (steps : List Step) (run : Run) (items events : ℕ) (es : List Event) (c : Sitting Event Run) (n : ℕ) where
   sent-own : IsPart parties_of (about_of run items events) es c → c.party ≡ Caller n → sent_of es n ≡ all_sent c.own
@@ -245,11 +246,12 @@ module _ (m : Meanings) (shape : Shape) (scripts : List (List Step)) (workers it
           let same : n ≡ n' = eqb-true n n' is in
           let steps_are : steps ≡ steps' = same_Some steps steps' (sym at ∙ (ap (slice_get scripts) same ∙ at')) in
           let here : sent_of (c.seen ++ e ∷ []) n' ≡ all_sent c.own ++ sent_by e =
-          sent ∙ (ap (λ b. cond b (sent_of c.seen n' ++ sent_by e) (sent_of c.seen n')) is ∙ ap (λ ds. ds ++ sent_by e) (ap (sent_of c.seen) (sym same) ∙ own)) in
-          (r.next.0,
-          ap (λ ds. ds ++ r.next.0) here
-          ∙ (append_assoc (all_sent c.own) (sent_by e) r.next.0
-          ∙ (ap (λ ds. all_sent c.own ++ ds) r.next.1 ∙ (h.whole ∙ ap (script shape) steps_are))))
+          sent ∙ (ap (λ b. cond b (sent_of c.seen n' ++ sent_by e) (sent_of c.seen n')) is ∙ ap (λ ds. ds ++ sent_by e) (ap (sent_of c.seen) (sym same) ∙ own)) in (
+            r.next.0,
+            ap (λ ds. ds ++ r.next.0) here
+                ∙ (append_assoc (all_sent c.own) (sent_by e) r.next.0
+                ∙ (ap (λ ds. all_sent c.own ++ ds) r.next.1 ∙ (h.whole ∙ ap (script shape) steps_are))),
+          )
       by_number false is =
           let other = follows-start shape scripts c.seen es part.seen follows n' steps' at' in
           (other.0, ap (λ ds. ds ++ other.0) (sent ∙ ap (λ b. cond b (sent_of c.seen n' ++ sent_by e) (sent_of c.seen n')) is) ∙ other.1)

@@ -28,9 +28,19 @@ module _ (B : RattleType) (n : Naming.Ghosts B.Denot) where
 
 module _ (B : RattleType) (n : Naming.Ghosts B.Denot) (s : IsSend B) (y : IsSync B) where
   pub book-sync : IsSync (Book.the_row B n)
-  book-sync = declared_sync (Book.the_type B n)
-      (search (crosses, line.the_sync, event-send, sendable) depth 30,
-      (search (crosses, run-sync, sendable) depth 30,
-      (search sendable, (search sendable,
-      (as_row_sync (Vec.the_field (M.the_row (P.the_row B n)) Global.the_row ghosts) (Vec-sync (M.the_row (P.the_row B n)) (mutex.the_sync (P.the_row B n) (post-send B n))),
-      (as_row_sync (M.the_field (Stop.the_row B n)) (mutex.the_sync (Stop.the_row B n) (stopper-send B n)), tt))))))
+  book-sync = declared_sync (Book.the_type B n) (
+    search (crosses, line.the_sync, event-send, sendable) depth 30,
+    (
+      search (crosses, run-sync, sendable) depth 30,
+      (
+        search sendable,
+        (
+          search sendable,
+          (
+            as_row_sync (Vec.the_field (M.the_row (P.the_row B n)) Global.the_row ghosts) (Vec-sync (M.the_row (P.the_row B n)) (mutex.the_sync (P.the_row B n) (post-send B n))),
+            (as_row_sync (M.the_field (Stop.the_row B n)) (mutex.the_sync (Stop.the_row B n) (stopper-send B n)), tt),
+          ),
+        ),
+      ),
+    ),
+  )

@@ -27,11 +27,22 @@ doc-sync = search (crosses, knot.crosses, kind-sync, step-sync, edge.the_sync, e
 
 module _ (a : NamedLft) (S G B : RattleType) (b : _) (n : Naming.Ghosts B.Denot) (y : IsSync S) (z : IsSync G) (s : IsSend B) (t : IsSync B) where
   pub graph-sync : IsSync (Graph.the_row a S G B b n)
-  graph-sync = declared_sync (Graph.the_type a S G B b n)
-      (search (doc-sync, sendable) depth 20,
-      (search (book-sync, s, t, sendable) depth 20,
-      (search (pool.the_sync, sendable) depth 20,
-      (bench.the_sync a S b y,
-      (search (z, sendable) depth 20,
-      (search (bell.the_sync, sendable) depth 20,
-      (search sendable, tt)))))))
+  graph-sync = declared_sync (Graph.the_type a S G B b n) (
+    search (doc-sync, sendable) depth 20,
+    (
+      search (book-sync, s, t, sendable) depth 20,
+      (
+        search (pool.the_sync, sendable) depth 20,
+        (
+          bench.the_sync a S b y,
+          (
+            search (z, sendable) depth 20,
+            (
+              search (bell.the_sync, sendable) depth 20,
+              (search sendable, tt),
+            ),
+          ),
+        ),
+      ),
+    ),
+  )

@@ -12,8 +12,13 @@ use Rattle.flow_run.proofs.SentGraph.{doc-sync, graph-sync}
 
 module _ (a : NamedLft) (R S G B : RattleType) (r : IsSync R) (y : IsSync S) (z : IsSync G) (s : IsSend B) (t : IsSync B) where
   pub site-sync : (b : _) (n : Naming.Ghosts B.Denot) → IsSync (Site.the_row a R S G B b n)
-  site-sync b n = declared_sync (Site.the_type a R S G B b n)
-      (search (sync, sendable) depth 20,
-      (search (r, sendable) depth 20,
-      (search (doc-sync, sendable) depth 20,
-      (as_row_sync (shr_ref_field a (Graph.the_row a S G B b n) tt) (shr_sync _ _ (Graph.the_row a S G B b n) (graph-sync a S G B b n y z s t)), tt))))
+  site-sync b n = declared_sync (Site.the_type a R S G B b n) (
+    search (sync, sendable) depth 20,
+    (
+      search (r, sendable) depth 20,
+      (
+        search (doc-sync, sendable) depth 20,
+        (as_row_sync (shr_ref_field a (Graph.the_row a S G B b n) tt) (shr_sync _ _ (Graph.the_row a S G B b n) (graph-sync a S G B b n y z s t)), tt),
+      ),
+    ),
+  )

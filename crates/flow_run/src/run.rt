@@ -256,13 +256,7 @@ fn answer_of(refused: &Option<Event>, done: bool) -> Result<(), Stop>
 {
     match refused {
         Some(_) => Err(Stop::Limit),
-        None => {
-            if done {
-                Ok(())
-            } else {
-                Err(Stop::Memory)
-            }
-        }
+        None => { if done { Ok(()) } else { Err(Stop::Memory) } }
     }
 }
 
@@ -350,7 +344,5 @@ pub fn run_all<R: Threads + Wait + Sync, S: Bodies, G: Gate>(
         (IsRefusedWithin (S.meanings bodies.now) doc.now.shape doc.now.scripts (workers + length doc.now.scripts) items events kept.new.journal) }
     ensures limit { is_some kept.new.refused ≡ is_limit result }
 {
-    run_kept(
-        rt, alloc, doc, bodies, gate, workers, items, events, kept,
-    )
+    run_kept(rt, alloc, doc, bodies, gate, workers, items, events, kept)
 }

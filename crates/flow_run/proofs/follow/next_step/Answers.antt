@@ -10,11 +10,12 @@ pub unreachable-requires : goal.unreachable-requires
 unreachable-requires g c = never-missing c.args.script.now c.args.at c.requires.within (sym c.get.ensures.value ∙ ap option_copied c.in-None.is)
 
 pub returns-in-Ok-clause-next : goal.returns-in-Ok-clause-next
-returns-in-Ok-clause-next g c = λ t.
-    (c.in-Ok.ensures.kept ∙ c.requires.none,
-    next-at c.args.graph.now.book.run.shape c.args.script.now c.args.at c.do_step-did.new.caller.chair
-    (step-more c.args.graph.now.book.run.shape c.args.script.now c.args.caller.now.chair c.do_step-did.new.caller.chair c.args.at c.in-Some.step.now (sym c.in-Some.ensures.value) c.in-Ok.ensures.done c.number.ensures.own
-    (caller-is c.do_step-did.new.caller.chair.party c.number.result c.number.ensures.number) c.requires.at))
+returns-in-Ok-clause-next g c = λ t. (
+  c.in-Ok.ensures.kept ∙ c.requires.none,
+  next-at c.args.graph.now.book.run.shape c.args.script.now c.args.at c.do_step-did.new.caller.chair
+      (step-more c.args.graph.now.book.run.shape c.args.script.now c.args.caller.now.chair c.do_step-did.new.caller.chair c.args.at c.in-Some.step.now (sym c.in-Some.ensures.value) c.in-Ok.ensures.done c.number.ensures.own
+      (caller-is c.do_step-did.new.caller.chair.party c.number.result c.number.ensures.number) c.requires.at),
+)
 
 pub returns-in-Err-clause-followed : goal.returns-in-Err-clause-followed
 returns-in-Err-clause-followed g c = λ t.

@@ -1,6 +1,5 @@
 use Rattle.std.proofs.Common.{◌∙◌, sym, ap, rules}
 use denote.Param.Send.{sendable}
-
 use Rattle.flow_run.proofs.Sent.{caller-send}
 use Rattle.flow_run.proofs.SentSite.{site-sync}
 use Rattle.flow_run.proofs.Changed.{map-same}

@@ -60,7 +60,7 @@ close-journal-requires-clause-callers g c = λ κs lives.
     (abouts (λ k. k.chair) (λ k. k.worker.chair) (λ k. k.worker.busy) (λ k. FollowsOwn run.shape c.args.doc.now.scripts k.chair) (g.S.Bodies.meanings c.args.parts.graph.bench.bodies.now) run items events new c.run_parts.ensures.followed)
 
 pub returns : goal.returns
-returns g c = 
+returns g c =
     let cs = c.args.parts.callers.items in
     let new = c.run_parts.new.callers in
     let same = same-length (λ k. k.chair.party) new c.as_mut_slice.result.now c.run_parts.ensures.parties ∙ ap length c.as_mut_slice.ensures.value in
