@@ -1,5 +1,5 @@
 -- What the answer of a run tells.
-use Rattle.std.proofs.Common.{◌≡◌, ℕ, ◌^◌, ◌≤◌, ◌<◌, Bool, true, false, OnOk, Result, Ok, Err, Option, None, List, [], ◌++◌, refl, sym, subst, arith}
+use Rattle.std.proofs.Common.{◌≡◌, ℕ, ◌^◌, ◌≤◌, Bool, true, false, OnOk, Result, Ok, Err, Option, None, List, [], refl, sym, subst, arith}
 use Rattle.std.specs.Prelude.{⊤, is_ok}
 use Rattle.flow_item.specs.declared.event.Event.{Event}
 use Rattle.flow_item.specs.declared.event.Stop.{Stop}

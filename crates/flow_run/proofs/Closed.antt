@@ -1,5 +1,5 @@
 -- What a closed run leaves, from what its chairs tell.
-use Rattle.std.proofs.Common.{◌≡◌, ℕ, zero, suc, ◌+◌, ◌<◌, ◌≤◌, ◌^◌, Bool, true, false, cond, not, ◌&&◌, ◌||◌, ltb, eqb, Option, Some, None, List, map, [], ◌∷◌, ◌++◌, length, drop, All, refl, sym, ap, ◌∙◌, subst, arith, append_assoc, append-nil}
+use Rattle.std.proofs.Common.{◌≡◌, ℕ, zero, suc, ◌+◌, ◌<◌, Bool, true, false, cond, ◌&&◌, ltb, eqb, Option, Some, None, List, map, [], ◌∷◌, ◌++◌, length, drop, All, refl, sym, ap, ◌∙◌, subst, arith, append_assoc, append-nil}
 use Rattle.std.proofs.lemmas.Bool.{ltb-true, eqb-true}
 use Rattle.std.proofs.lemmas.List.{map-append, length-append}
 use Rattle.std.proofs.lemmas.List.Elements.{All-head, All-tail, All-append, All-map}
@@ -15,7 +15,7 @@ use Rattle.flow_item.specs.declared.event.Event.{Event}
 use Rattle.flow_item.specs.declared.event.Event.TheVariants as E
 use Rattle.flow_item.specs.declared.event.Party.{Party}
 use Rattle.flow_item.specs.declared.event.Party.TheVariants.{Node, Caller, Worker}
-use Rattle.flow_item.specs.Events.{parties_of, births_of, births}
+use Rattle.flow_item.specs.Events.{parties_of}
 use Rattle.flow_item.specs.Legal.{takes_part, projection}
 use Rattle.flow_item.proofs.Tests.{and_left, and_right, both_true}
 use Rattle.flow_item.proofs.Journals.{projection-append, is_legal-start, is_legal-snoc}
@@ -26,9 +26,9 @@ use Rattle.flow_shape.specs.Kinds.{is_body}
 use Rattle.flow_shape.specs.Rules.{IsValid}
 use Rattle.flow_item.specs.Lists.{places}
 use Rattle.flow_machine.specs.Machine.{allows, is_leave, is_legal, may_follow, is_of_run, is_run, open_after}
-use Rattle.flow_machine.specs.Scripts.{Sent, puts, acts, leaves, cancels, Duty, does, sent_by, all_sent, sent_of, duties, done_in, script}
+use Rattle.flow_machine.specs.Scripts.{Sent, puts, acts, cancels, does, sent_by, all_sent, sent_of, duties, done_in, script}
 use Rattle.flow_machine.specs.Schedule.{is_left}
-use Rattle.flow_machine.specs.Bodies.{Meanings, body_kept, bodies_kept}
+use Rattle.flow_machine.specs.Bodies.{Meanings, bodies_kept}
 use Rattle.flow_progress.specs.NeverStuck.{has_left}
 use Rattle.flow_laws.specs.Moments.{IsWithinLimits}
 use Rattle.flow_line.specs.Values.{Sitting, IsPart}

@@ -1,5 +1,5 @@
 -- Scripts, step by step.
-use Rattle.std.proofs.Common.{◌≡◌, ◌⊎◌, ℕ, zero, suc, ◌+◌, ◌<◌, ◌≤◌, Bool, true, false, ◌||◌, ltb, eqb, Option, Some, None, List, map, [], ◌∷◌, ◌++◌, length, drop, refl, sym, ap, ◌∙◌, subst, arith, inl, inr, append_assoc}
+use Rattle.std.proofs.Common.{◌≡◌, ℕ, zero, suc, ◌+◌, ◌<◌, ◌≤◌, Bool, true, false, ◌||◌, ltb, eqb, Option, Some, None, List, map, [], ◌∷◌, ◌++◌, length, drop, refl, sym, ap, ◌∙◌, subst, arith, inl, inr, append_assoc}
 use Rattle.std.proofs.lemmas.Bool.{ltb-true}
 use Rattle.std.proofs.lemmas.Bool.Decides.{nat_tests}
 use Rattle.std.proofs.lemmas.List.{append-nil, drop_all}
@@ -11,9 +11,9 @@ use Rattle.flow_item.specs.declared.event.Event.TheVariants as E
 use Rattle.flow_item.specs.declared.event.Stop.{Stop}
 use Rattle.flow_item.specs.declared.event.Stop.TheVariants.{Limit, Memory}
 use Rattle.flow_item.specs.declared.event.Party.{Party}
-use Rattle.flow_item.specs.declared.event.Party.TheVariants.{Node, Caller, Worker}
+use Rattle.flow_item.specs.declared.event.Party.TheVariants.{Caller}
 use Rattle.flow_item.specs.Events.{parties_of}
-use Rattle.flow_item.specs.Legal.{takes_part, projection}
+use Rattle.flow_item.specs.Legal.{projection}
 use Rattle.flow_item.specs.Lists.{places}
 use Rattle.flow_item.proofs.Places.{slice_get-below}
 use Rattle.flow_shape.specs.declared.Shape.{Shape}

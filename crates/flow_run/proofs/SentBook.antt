@@ -1,7 +1,7 @@
 -- What threads ask of a book.
 use denote.RattleType.{RattleType}
-use denote.Param.Send.{IsSend, IsSync, view_send, sendable}
-use denote.Param.SendFields.{declared_send, declared_sync, as_row_send, as_row_sync}
+use denote.Param.Send.{IsSend, IsSync, sendable}
+use denote.Param.SendFields.{declared_send, declared_sync, as_row_sync}
 use Rattle.std.proofs.Crossing.{crosses, Vec-sync}
 use Rattle.std.proofs.sync.Mutex.TheSendSync as mutex
 use Rattle.flow_line.proofs.chair.Chair.TheSendSync as chair
@@ -10,13 +10,11 @@ use Rattle.flow_line.specs.declared.naming.Naming
 use Rattle.flow_book.specs.contracts.book.Book
 use Rattle.flow_book.specs.contracts.stopper.Stopper as Stop
 use Rattle.flow_book.specs.contracts.post.Post as P
-use Rattle.flow_book.specs.contracts.post.Post.TheInside as Inside
 use Rattle.std.specs.contracts.sync.Mutex as M
 use Rattle.std.specs.contracts.vec.Vec as Vec
 use Rattle.std.specs.contracts.alloc.Global as Global
 use Rattle.std.specs.contracts.impls.GlobalAllocator.TheImpl.{ghosts}
-use Rattle.flow_run.proofs.Sent.{event-send, event-sync, run-send, run-sync}
-use Rattle.flow_node.specs.contracts.node.NodeState as Node
+use Rattle.flow_run.proofs.Sent.{event-send, run-sync}
 use Rattle.flow_run.proofs.SentNodes.{node-send}
 
 module _ (B : RattleType) (n : Naming.Ghosts B.Denot) where

@@ -1,8 +1,8 @@
 -- What threads ask of a graph.
 use denote.RattleType.{RattleType}
 use denote.Ref.{NamedLft}
-use denote.Param.Send.{IsSend, IsSync, shr_sync, sendable}
-use denote.Param.SendFields.{declared_sync, as_row_sync}
+use denote.Param.Send.{IsSend, IsSync, sendable}
+use denote.Param.SendFields.{declared_sync}
 use Rattle.std.proofs.Crossing.{crosses}
 use Rattle.flow_item.proofs.val.Val.TheLaws.TheKnot as knot
 use Rattle.flow_item.proofs.items.Items.TheSendSync as items
@@ -14,7 +14,6 @@ use Rattle.flow_line.specs.declared.naming.Naming
 use Rattle.flow_pool.proofs.pool.Pool.TheSendSync as pool
 use Rattle.flow_crew.proofs.bodies.Bench.TheSendSync as bench
 use Rattle.flow_crew.proofs.bell.Bell.TheSendSync as bell
-use Rattle.flow_crew.proofs.bell.Rope.TheSendSync as rope
 use Rattle.flow_crew.specs.contracts.graph.Graph as Graph
 use Rattle.flow_run.proofs.Sent.{kind-sync}
 use Rattle.flow_run.proofs.SentBook.{book-sync}

@@ -1,5 +1,5 @@
 -- What threads ask of nodes.
-use denote.Param.Send.{IsSend, IsSync, sendable}
+use denote.Param.Send.{IsSend, sendable}
 use Rattle.std.proofs.Crossing.{crosses}
 use Rattle.flow_item.proofs.val.Val.TheLaws.TheKnot as knot
 use Rattle.flow_item.proofs.roomy.Roomy.TheSendSync as roomy

@@ -1,6 +1,6 @@
-use Rattle.std.proofs.Common.{◌+◌, ◌-◌, ◌<◌, ◌≤◌, ◌≡◌, ◌∙◌, sym, ap, arith}
+use Rattle.std.proofs.Common.{◌-◌, ◌∙◌, sym, ap, arith}
 use Rattle.std.specs.Option.{option_copied}
-use Rattle.flow_run.proofs.Born.{none-behind, none-before, few-born}
+use Rattle.flow_run.proofs.Born.{none-before, few-born}
 use Rattle.flow_run.proofs.Following.{never-missing}
 use Rattle.flow_run.proofs.births.tell_few.Goals as goal
 

@@ -1,9 +1,9 @@
-use Rattle.std.proofs.Common.{◌<◌, ◌≡◌, ◌∙◌, length, sym, ap, arith}
+use Rattle.std.proofs.Common.{◌∙◌, sym, ap, arith}
 use Rattle.std.specs.List.{list_all}
 use Rattle.std.specs.Option.{option_copied}
 use Rattle.flow_shape.proofs.Sorting.{all-at}
 use Rattle.flow_work.specs.Runs.{is_good_step}
-use Rattle.flow_run.proofs.Following.{never-missing, caller-below, own-script}
+use Rattle.flow_run.proofs.Following.{never-missing, caller-below}
 use Rattle.flow_run.proofs.follow.follow.Goals as goal
 
 pub follow_script-requires-clause-good : goal.follow_script-requires-clause-good

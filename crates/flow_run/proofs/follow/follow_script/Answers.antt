@@ -1,4 +1,4 @@
-use Rattle.std.proofs.Common.{◌≡◌, ◌≤◌, ◌<◌, length, arith, subst}
+use Rattle.std.proofs.Common.{◌≡◌, length, arith, subst}
 use Rattle.flow_run.specs.Following.{IsAt}
 use Rattle.flow_run.proofs.Following.{script-ended}
 use Rattle.flow_run.proofs.follow.follow_script.Goals as goal

@@ -1,4 +1,4 @@
-use Rattle.std.proofs.Common.{◌≡◌, ◌+◌, true, length, sym, ap, ◌∙◌, subst}
+use Rattle.std.proofs.Common.{◌≡◌, true, sym, ap, subst}
 use Rattle.std.specs.List.{list_all}
 use Rattle.flow_pool.specs.Posts.{IsPostOf}
 use Rattle.flow_book.specs.Opening.{callers_of, workers_of}
