@@ -1,5 +1,12 @@
-// The command `check`.
+// The command `check`, and the rules of determinate documents.
 use crate::tests::expect_rows;
+use flow_body::{Add, Named, Shelf};
+use flow_doc::{DocFault, WHOLE};
+use flow_item::Text;
+use flow_mean::{MeanFault, determinate};
+use flow_read::read_doc;
+use std::alloc::Global;
+use std::process::Abort;
 use std::test::Fail;
 
 // A line of words, what the source has, the status and what is written.
@@ -67,4 +74,55 @@ const LINES: [(&str, &str, u8, &str); 13] = [
 #[test]
 fn documents_are_checked(rt: HostRuntime) -> Result<(), Fail> {
     expect_rows(&rt, rt.alloc(), LINES.as_slice())
+}
+
+// A function that may refuse, between a queue and a sequencer, and a sequencer beside them.
+const WHOLE_WORDS: &str =
+    r#"{"version":4,"nodes":[{"name":"q","kind":"queue"},{"name":"f","kind":"function","policy":"rejecting","body":"add"},{"name":"s","kind":"sequencer"}],"edges":[{"from":"q","to":"f"},{"from":"f","to":"s"}],"callers":[[{"put":"q","val":1}]],"sinks":["s"]}"#;
+
+// A change of one place of it, and the rule that fails then, with its node.
+const CHANGES: [(&str, &str, &str); 4] = [
+    ("[[", "[[", ""),
+    (r#"{"put":"q""#, r#"{"put":"f","val":4},{"put":"q""#, "N4 1"),
+    (r#""queue"}"#, r#""queue","capacity":1}"#, "N4 0"),
+    ("[[", r#"[[{"cancel":true},"#, "N8 1"),
+];
+
+// A shelf of the body `add`.
+fn shelf(alloc: Global) -> Result<Shelf, Fail> {
+    let name = Text::of(alloc, "add").ok().ok_or("a name")?;
+    let mut bodies = Vec::new(alloc);
+    bodies.push(Named {
+        name,
+        body: Box::new(alloc, Add)?,
+    })?;
+    Ok(Shelf::new(alloc, bodies).ok().ok_or("a shelf")?)
+}
+
+// What the rules say of the document of these bytes, by all words.
+fn judged(alloc: Global, bytes: &[u8], shelf: &Shelf) -> Result<Result<(), MeanFault>, DocFault> {
+    let doc = read_doc(alloc, bytes, shelf, WHOLE)?;
+    Ok(determinate(alloc, &doc, shelf))
+}
+
+fn expect_rule(rt: &impl Abort, alloc: Global, text: &str, wanted: &str) -> Result<(), Fail> {
+    let shelf = shelf(alloc)?;
+    let said = match judged(alloc, text.as_bytes(), &shelf) {
+        Ok(Ok(())) => String::new(alloc),
+        Ok(Err(MeanFault::Loose(loose))) => format!(in alloc; "{:?} {}", loose.rule, loose.at)?,
+        _ => Err("no answer")?,
+    };
+    assert_eq!(rt; said.as_str(), wanted);
+    Ok(())
+}
+
+#[test]
+fn rules_of_words_to_come_are_tried(rt: HostRuntime) -> Result<(), Fail> {
+    let alloc = rt.alloc();
+    for (old, new, wanted) in CHANGES {
+        let (front, back) = WHOLE_WORDS.split_once(old).ok_or("a place")?;
+        let text = format!(in alloc; "{front}{new}{back}")?;
+        expect_rule(&rt, alloc, text.as_str(), wanted)?;
+    }
+    Ok(())
 }
