@@ -1,5 +1,5 @@
 -- Who works on a graph, and what a call leaves.
-use Rattle.std.specs.Prelude.{◌≡◌, ℕ, ◌<◌, Bool, true, false, is_none, Option, Some, None, List, [], slice_get, length, IfSome, ⊤}
+use Rattle.std.specs.Prelude.{◌≡◌, ℕ, ◌<◌, ◌≤◌, Bool, true, false, is_none, Option, Some, None, List, [], slice_get, length, IfSome, ⊤}
 use Rattle.std.specs.List.{count_by}
 use mathlib.Core.List.{IsPrefix}
 use Rattle.flow_item.specs.declared.event.Event.{Event}
