@@ -264,7 +264,7 @@ impl<B: Naming> Worker<B> {
         self.heard = u64::MAX;
     }
 
-    /// Whether the work has ended, and how.
+    /// Whether the work has ended, and how. It makes no event.
     pub fn ended<R: Wait, S: Bodies, G: Gate>(
         &mut self,
         rt: &R,
@@ -275,6 +275,7 @@ impl<B: Naming> Worker<B> {
         ensures of { IsWorker (S.meanings graph.now.bench.bodies.now) graph.now.book.run graph.now.book.items graph.now.book.events self.new.chair self.new.busy }
         ensures post { IsPostOf graph.now.pool self.new.post }
         ensures worked { HasWorked self.old.chair self.new.chair }
+        ensures same { IsSame self.old.chair self.new.chair }
         ensures busy { self.new.busy ≡ self.old.busy }
         ensures ended { IfSome result (λ w. IsEnded graph.now.book.run self.old.chair w self.new.chair) }
     {
