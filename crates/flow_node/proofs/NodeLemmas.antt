@@ -147,7 +147,7 @@ told place l all here wired =
     record { keeps = rw (here, w.1) kept; turns = rw (here, w.1) turned }
 
 -- where an edge joins two nodes, the other end isn't this node
-other-end : (l : Link) (n : ℕ) → eqb l.from l.to ≡ false → l.from ≡ n → eqb l.to n ≡ false
+pub other-end : (l : Link) (n : ℕ) → eqb l.from l.to ≡ false → l.from ≡ n → eqb l.to n ≡ false
 other-end l n apart here = rw (← here) (by_back (eqb l.to l.from) refl)
   where
     by_back : (d : Bool) → eqb l.to l.from ≡ d → d ≡ false
@@ -155,7 +155,7 @@ other-end l n apart here = rw (← here) (by_back (eqb l.to l.from) refl)
     by_back false f = refl
 
 -- the second of two nodes isn't where the edge begins
-off_end : (l : Link) (a n : ℕ) → ends l ≡ both (Node a) (Node n) → eqb l.from n ≡ false
+pub off_end : (l : Link) (a n : ℕ) → ends l ≡ both (Node a) (Node n) → eqb l.from n ≡ false
 off_end l a n h = by_loop (eqb l.from l.to) refl (ap (λ (p : Parties). p.second) h)
   where
     by_loop : (b : Bool) → eqb l.from l.to ≡ b → ◌≡◌ {A = Option Party} (cond (eqb l.from l.to) None (Some (Node l.to))) (Some (Node n)) → eqb l.from n ≡ false

@@ -166,8 +166,8 @@ same-numbered i (j ∷ js) h = by_first (same_item i j) refl h (same-numbered i 
     by_first true e h later = let same : i ≡ j = item-equal i j e in rw (← same, eq-eqb i.id.no i.id.no refl)
     by_first false e h later = rw (later h) (or_true (is_numbered i.id.no j))
 
-stored : (k : Kind) (s : StoreState) (i : Item) → list_any (same_item i) (when (is_none s.lock) (store_front k s.items s.next)) ≡ true → list_any (is_numbered i.id.no) s.items ≡ true
-stored k s i h = any-front (is_numbered i.id.no) k s.items s.next (any-when (is_none s.lock) (is_numbered i.id.no) (store_front k s.items s.next) (same-numbered i (when (is_none s.lock) (store_front k s.items s.next)) h))
+stored : (k : Kind) (s : StoreState) (i : ℕ) → list_any (is_numbered i) (when (is_none s.lock) (store_front k s.items s.next)) ≡ true → list_any (is_numbered i) s.items ≡ true
+stored k s i h = any-front (is_numbered i) k s.items s.next (any-when (is_none s.lock) (is_numbered i) (store_front k s.items s.next) h)
 
 -- ---- the numbers of its items
 
@@ -216,19 +216,19 @@ next-up K.Sequencer next = omega arith
 next-up k next = omega arith
 
 -- an item went
-pub counted-given : (place : Place) (push : List ℕ) (x made : ℕ) (i : Item) (p : Part) → list_any (same_item i) (part_candidates place push x p) ≡ true → is_counted made p ≡ true → is_counted made (part_after_give place.kind p x i.id.no) ≡ true
+pub counted-given : (place : Place) (push : List ℕ) (x made i : ℕ) (p : Part) → list_any (is_numbered i) (part_candidates place push x p) ≡ true → is_counted made p ≡ true → is_counted made (part_after_give place.kind p x i) ≡ true
 counted-given place push x made i (store_part s) may h =
     let few = leb-true (s.next + length s.items) made (and_right (is_new made s.items) _ h) in
-    let less = length-dropped (is_numbered i.id.no) s.items (stored place.kind s i may) in
+    let less = length-dropped (is_numbered i) s.items (stored place.kind s i may) in
     let up = next-up place.kind s.next in
-    both_true (all-dropped (is_numbered i.id.no) _ s.items (and_left (is_new made s.items) _ h)) (le-leb _ _ (omega (arith, few, less, up)))
+    both_true (all-dropped (is_numbered i) _ s.items (and_left (is_new made s.items) _ h)) (le-leb _ _ (omega (arith, few, less, up)))
 counted-given place push x made i p may h = refl
 
 -- the tag that a sequencer waits for then
-pub given-fits : (place : Place) (push : List ℕ) (x made : ℕ) (i : Item) (p : Part) → list_any (same_item i) (part_candidates place push x p) ≡ true → is_counted made p ≡ true → made ≤ 18446744073709551615 → tag_after place.kind p < 2 ^ 64
+pub given-fits : (place : Place) (push : List ℕ) (x made i : ℕ) (p : Part) → list_any (is_numbered i) (part_candidates place push x p) ≡ true → is_counted made p ≡ true → made ≤ 18446744073709551615 → tag_after place.kind p < 2 ^ 64
 given-fits place push x made i (store_part s) may h most =
     let few = leb-true (s.next + length s.items) made (and_right (is_new made s.items) _ h) in
-    let less = length-dropped (is_numbered i.id.no) s.items (stored place.kind s i may) in
+    let less = length-dropped (is_numbered i) s.items (stored place.kind s i may) in
     let up = next-up place.kind s.next in
     omega (arith, few, less, up, most)
 given-fits place push x made i p may h most = omega arith
