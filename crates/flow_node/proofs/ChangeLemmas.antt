@@ -1,6 +1,6 @@
 -- What a change asks of its node and leaves of it, and that this is what its event asks and leaves.
-use Rattle.std.proofs.Common.{◌≡◌, ℕ, ◌+◌, Bool, true, false, ◌&&◌, ◌||◌, not, cond, eqb, Option, Some, None, List, [], refl, sym, ap, ◌∙◌, subst, arith, eq-eqb}
-use Rattle.std.specs.Prelude.{is_some, IsSome, IfSome}
+use Rattle.std.proofs.Common.{◌≡◌, ℕ, ◌+◌, Bool, true, false, ◌&&◌, cond, eqb, Option, Some, None, List, [], refl, sym, ap, ◌∙◌, subst, arith, eq-eqb}
+use Rattle.std.specs.Prelude.{⊤, is_some, IsSome, IfSome}
 use Rattle.std.specs.List.{list_any}
 use Rattle.std.proofs.lemmas.Bool.{eqb-true}
 use Rattle.flow_item.specs.declared.item.Msg.{Msg}
@@ -94,13 +94,13 @@ GivesOne v (H.Shut ended) w = w ≡ due_with v.node (part_after_shut v.node.stat
 GivesOne v H.Idle w = w ≡ record v.node { state = record v.node.state { due = false } }
 GivesOne v c w = ⊥
 
-body-ends : (v : Readied) (w m i number : ℕ) (outs : List Msg) → allows_at v.node.place v.node.state (E.End w m i number outs) ≡ true → IsPrepared v (E.End w m i number outs) → EndsBody v i
+abbrev body-ends : (v : Readied) (w m i number : ℕ) (outs : List Msg) → allows_at v.node.place v.node.state (E.End w m i number outs) ≡ true → IsPrepared v (E.End w m i number outs) → EndsBody v i
 body-ends v w m i number outs h r = record { number = number; outs = outs; may = and_right (eqb number v.node.state.made) _ h; casts = r.casts }
 
 module _ {v : Readied} (b : Base) (p : Part) (view : placed b p ≡ v.node) (kept : IsKept b p) where
   needs-one : (e : Event) → link_of e ≡ None → allows_at v.node.place v.node.state e ≡ true → IsPrepared v e → NeedsOne v (change_of e)
   needs-one (E.Put c n port tag val (Accepted number land)) alone h r = record {
-    some = rw (r.value) tt;
+    some = rw (r.value) refl;
     comes = put-comes v.node c n port tag val number land h;
     ready = and_left v.ready (suits v.ready_for port tag) r.room;
     fits = and_right v.ready (suits v.ready_for port tag) r.room;
@@ -150,24 +150,24 @@ pub one-steps : {v : Readied} (c k : Change) (w : PlacedNode) → c ≡ k → Gi
 one-steps {v} c k w is g e h = steps-one e w h.allowed h.prepared (subst (λ (d : Change). GivesOne v d w) (sym is ∙ h.change) g)
 
 -- the changes that an event of one node makes
-pub only-one : {v : Readied} (c : Change) → NeedsOne v c → ((port tag : ℕ) (land : Land) → c ≡ H.Put port tag land → ⊥) → (c ≡ H.Refused → ⊥) → (c ≡ H.Cancel → ⊥) → (c ≡ H.Start → ⊥)
+pub only-one : (v : Readied) (c : Change) → NeedsOne v c → ((port tag : ℕ) (land : Land) → c ≡ H.Put port tag land → ⊥) → (c ≡ H.Refused → ⊥) → (c ≡ H.Cancel → ⊥) → (c ≡ H.Start → ⊥)
     → ((i : ℕ) → c ≡ H.End i → ⊥) → ((number : ℕ) → c ≡ H.Form number → ⊥) → ((ended : Ended) → c ≡ H.Shut ended → ⊥) → (c ≡ H.Idle → ⊥) → ⊥
-only-one (H.Put port tag land) h put refused cancel start end form shut idle = put port tag land refl
-only-one H.Refused h put refused cancel start end form shut idle = refused refl
-only-one H.Cancel h put refused cancel start end form shut idle = cancel refl
-only-one H.Start h put refused cancel start end form shut idle = start refl
-only-one (H.End i) h put refused cancel start end form shut idle = end i refl
-only-one (H.Form number) h put refused cancel start end form shut idle = form number refl
-only-one (H.Shut ended) h put refused cancel start end form shut idle = shut ended refl
-only-one H.Idle h put refused cancel start end form shut idle = idle refl
-only-one c h put refused cancel start end form shut idle = h
+only-one v (H.Put port tag land) h put refused cancel start end form shut idle = put port tag land refl
+only-one v H.Refused h put refused cancel start end form shut idle = refused refl
+only-one v H.Cancel h put refused cancel start end form shut idle = cancel refl
+only-one v H.Start h put refused cancel start end form shut idle = start refl
+only-one v (H.End i) h put refused cancel start end form shut idle = end i refl
+only-one v (H.Form number) h put refused cancel start end form shut idle = form number refl
+only-one v (H.Shut ended) h put refused cancel start end form shut idle = shut ended refl
+only-one v H.Idle h put refused cancel start end form shut idle = idle refl
+only-one v c h put refused cancel start end form shut idle = h
 
 -- the part changed, and the node is due
-pub due-step : {v : Readied} (b : Base) (p p' : Part) (f : S.Part → S.Part) → placed b p ≡ v.node → kind_of p' ≡ kind_of p → part_of p' ≡ f (part_of p) → placed (record b { due = true }) p' ≡ due_with v.node (f v.node.state.part)
-due-step b p p' f view kind is = rw (← view, kind, is)
+pub due-step : (v : Readied) (b : Base) (p p' : Part) (f : S.Part → S.Part) → placed b p ≡ v.node → kind_of p' ≡ kind_of p → part_of p' ≡ f (part_of p) → placed (record b { due = true }) p' ≡ due_with v.node (f v.node.state.part)
+due-step v b p p' f view kind is = rw (← view, kind, is)
 
-pub idle-step : {v : Readied} (b : Base) (p : Part) → placed b p ≡ v.node → placed (record b { due = false }) p ≡ record v.node { state = record v.node.state { due = false } }
-idle-step b p view = rw (← view)
+pub idle-step : (v : Readied) (b : Base) (p : Part) → placed b p ≡ v.node → placed (record b { due = false }) p ≡ record v.node { state = record v.node.state { due = false } }
+idle-step v b p view = rw (← view)
 
 -- ---- an event over an edge out of the node
 
@@ -194,13 +194,20 @@ Hands v (H.Refuse x) o = o ≡ None
 Hands v (H.None x) o = o ≡ None
 Hands v c o = ⊥
 
-module _ {v : Readied} (b : Base) (p : Part) (view : placed b p ≡ v.node) (kept : IsKept b p) where
-  own : (l : Link) → eqb l.from v.node.place.node ≡ true → eqb l.from b.node ≡ true
+module _ {n : PlacedNode} (b : Base) (p : Part) (view : placed b p ≡ n) where
+  own : (l : Link) → eqb l.from n.place.node ≡ true → eqb l.from b.node ≡ true
   own l h = rw (← view) at h
 
+  turned-after : (l : Link) → eqb l.from l.to ≡ false → eqb l.from b.node ≡ true → turned_at n l.edge ≡ stepped n (E.None l)
+  turned-after l apart here =
+      let away : eqb l.to b.node ≡ false = other-end l b.node apart (eqb-true _ _ here) in
+      let same : b.made + 0 ≡ b.made = omega arith in
+      rw (← view, here, away, same)
+
+module _ {v : Readied} (b : Base) (p : Part) (view : placed b p ≡ v.node) (kept : IsKept b p) where
   needs-from : (e : Event) → is_reserving e ≡ false → is_from v.node.place.node e ≡ true → allows_at v.node.place v.node.state e ≡ true → IsPrepared v e → NeedsFrom v (change_of e)
-  needs-from (E.Give l i number land) met from h r = same-numbered i _ (give-allowed b p view kept l i number land (own l from) h)
-  needs-from (E.Refuse l i) met from h r = refuse-allowed b p view kept l i (own l from) h
+  needs-from (E.Give l i number land) met from h r = same-numbered i _ (give-allowed b p view kept l i number land (own b p view l from) h)
+  needs-from (E.Refuse l i) met from h r = refuse-allowed b p view kept l i (own b p view l from) h
   needs-from (E.None l) met from h r = r.room
   needs-from (E.Put c n port tag val (Accepted number land)) met from h r = cc
   needs-from (E.Put c n port tag val (Refused cause)) met from h r = cc
@@ -209,22 +216,16 @@ module _ {v : Readied} (b : Base) (p : Part) (view : placed b p ≡ v.node) (kep
   pub from-needs : (c k : Change) → c ≡ k → (e : Event) → ChangesFrom v c e → NeedsFrom v k
   from-needs c k is e h = subst (λ (d : Change). NeedsFrom v d) (sym h.change ∙ is) (needs-from e h.met h.from h.allowed h.prepared)
 
-  turned-after : (l : Link) → eqb l.from l.to ≡ false → eqb l.from b.node ≡ true → turned_at v.node l.edge ≡ stepped v.node (E.None l)
-  turned-after l apart here =
-      let away : eqb l.to b.node ≡ false = other-end l b.node apart (eqb-true _ _ here) in
-      let same : b.made + 0 ≡ b.made = omega arith in
-      rw (← view, here, away, same)
-
-  steps-from : (e : Event) (w : PlacedNode) → is_from v.node.place.node e ≡ true → is_loop e ≡ false → allows_at v.node.place v.node.state e ≡ true → GivesFrom v (change_of e) w → w ≡ stepped v.node e
-  steps-from (E.Give l i number land) w from apart h g = g ∙ given-after b p view kept l i number land apart (own l from) h
-  steps-from (E.Refuse l i) w from apart h g = g ∙ refused-after b p view kept l i apart (own l from) h
-  steps-from (E.None l) w from apart h g = g ∙ turned-after l apart (own l from)
-  steps-from (E.Put c n port tag val (Accepted number land)) w from apart h g = absurd g
-  steps-from (E.Put c n port tag val (Refused cause)) w from apart h g = absurd g
-  steps-from e w from apart h g = absurd g
+  steps-from : (c : Change) (e : Event) (w : PlacedNode) → ChangesFrom v c e → GivesFrom v (change_of e) w → w ≡ stepped v.node e
+  steps-from c (E.Give l i number land) w h g = g ∙ given-after b p view kept l i number land h.apart (own b p view l h.from) h.allowed
+  steps-from c (E.Refuse l i) w h g = g ∙ refused-after b p view kept l i h.apart (own b p view l h.from) h.allowed
+  steps-from c (E.None l) w h g = g ∙ turned-after b p view l h.apart (own b p view l h.from)
+  steps-from c (E.Put d n port tag val (Accepted number land)) w h g = absurd g
+  steps-from c (E.Put d n port tag val (Refused cause)) w h g = absurd g
+  steps-from c e w h g = absurd g
 
   pub from-steps : (c k : Change) (w : PlacedNode) → c ≡ k → GivesFrom v k w → (e : Event) → ChangesFrom v c e → w ≡ stepped v.node e
-  from-steps c k w is g e h = steps-from e w h.from h.apart h.allowed (subst (λ (d : Change). GivesFrom v d w) (sym is ∙ h.change) g)
+  from-steps c k w is g e h = steps-from c e w h (subst (λ (d : Change). GivesFrom v d w) (sym is ∙ h.change) g)
 
 hands : {v : Readied} (e : Event) (o : Option Val) → is_from v.node.place.node e ≡ true → IsPrepared v e → Hands v (change_of e) o → o ≡ given_value e
 hands (E.Give l i number land) o from r g = g ∙ rw from at r.value
@@ -237,14 +238,14 @@ hands e o from r g = absurd g
 pub from-hands : {v : Readied} (c k : Change) (o : Option Val) → c ≡ k → Hands v k o → (e : Event) → ChangesFrom v c e → o ≡ given_value e
 from-hands {v} c k o is g e h = hands e o h.from h.prepared (subst (λ (d : Change). Hands v d o) (sym is ∙ h.change) g)
 
-pub only-from : {v : Readied} (c : Change) → NeedsFrom v c → ((x port i tag : ℕ) (land : Land) → c ≡ H.Give x port i tag land → ⊥) → ((x : ℕ) → c ≡ H.Refuse x → ⊥) → ((x : ℕ) → c ≡ H.None x → ⊥) → ⊥
-only-from (H.Give x port i tag land) h give refuse none = give x port i tag land refl
-only-from (H.Refuse x) h give refuse none = refuse x refl
-only-from (H.None x) h give refuse none = none x refl
-only-from c h give refuse none = h
+pub only-from : (v : Readied) (c : Change) → NeedsFrom v c → ((x port i tag : ℕ) (land : Land) → c ≡ H.Give x port i tag land → ⊥) → ((x : ℕ) → c ≡ H.Refuse x → ⊥) → ((x : ℕ) → c ≡ H.None x → ⊥) → ⊥
+only-from v (H.Give x port i tag land) h give refuse none = give x port i tag land refl
+only-from v (H.Refuse x) h give refuse none = refuse x refl
+only-from v (H.None x) h give refuse none = none x refl
+only-from v c h give refuse none = h
 
-pub turn-step : {v : Readied} (b b' : Base) (p : Part) (x : ℕ) → placed b p ≡ v.node → b'.push.items ≡ with_number x b.push.items → b' ≡ record b { push = b'.push } → placed (record b' { due = true }) p ≡ turned_at v.node x
-turn-step b b' p x view items same = rw (← view, same, items)
+pub turn-step : (v : Readied) (b b' : Base) (p : Part) (x : ℕ) → placed b p ≡ v.node → b'.push.items ≡ with_number x b.push.items → b' ≡ record b { push = b'.push } → placed (record b' { due = true }) p ≡ turned_at v.node x
+turn-step v b b' p x view items same = rw (← view, same, items)
 
 -- ---- an event over an edge into the node
 
@@ -261,7 +262,7 @@ module _ {v : Readied} (b : Base) (p : Part) (view : placed b p ≡ v.node) (kep
   needs-to c o (E.Give l i number land) h =
       let r = rw (h.to) at h.prepared.room in
       record {
-        some = rw (h.given) tt;
+        some = rw (h.given) refl;
         comes = edge-comes v.node l i number land h.to h.allowed;
         ready = and_left v.ready (suits v.ready_for l.port i.tag) r;
         fits = and_right v.ready (suits v.ready_for l.port i.tag) r;
@@ -285,9 +286,9 @@ module _ {v : Readied} (b : Base) (p : Part) (view : placed b p ≡ v.node) (kep
   pub to-steps : (c k : Change) (o : Option Val) (w : PlacedNode) → c ≡ k → GivesTo v o k w → (e : Event) → ChangesTo v c o e → w ≡ stepped v.node e
   to-steps c k o w is g e h = steps-to c o e w h (subst (λ (d : Change). GivesTo v o d w) (sym is ∙ h.change) g)
 
-pub only-to : {v : Readied} (o : Option Val) (c : Change) → NeedsTo v o c → ((x port i tag : ℕ) (land : Land) → c ≡ H.Give x port i tag land → ⊥) → ⊥
-only-to o (H.Give x port i tag land) h give = give x port i tag land refl
-only-to o c h give = h
+pub only-to : (v : Readied) (o : Option Val) (c : Change) → NeedsTo v o c → ((x port i tag : ℕ) (land : Land) → c ≡ H.Give x port i tag land → ⊥) → ⊥
+only-to v o (H.Give x port i tag land) h give = give x port i tag land refl
+only-to v o c h give = h
 
 -- ---- an event from one node to another
 
@@ -306,7 +307,7 @@ ends-between l a n h =
     let off = off_end l a n h in
     let last = other_side (eqb l.from l.to) refl (ap (λ (p : Parties). p.second) h) in
     record {
-      over = tt;
+      over = refl;
       from = eq-eqb _ _ is;
       apart = last.0;
       to = off;

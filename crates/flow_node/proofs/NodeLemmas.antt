@@ -1,5 +1,5 @@
 -- What the steps of a part leave of its node.
-use Rattle.std.proofs.Common.{◌≡◌, ℕ, suc, ◌+◌, ◌≤◌, Bool, true, false, not, ◌&&◌, ◌||◌, cond, eqb, ltb, Option, Some, None, Err, List, [], ◌∷◌, length, map, drop, refl, sym, ap, ◌∙◌, arith, eq-eqb, ◌<◌}
+use Rattle.std.proofs.Common.{◌≡◌, ℕ, suc, ◌+◌, ◌≤◌, Bool, true, false, not, ◌&&◌, ◌||◌, cond, eqb, ltb, Option, Some, None, Err, List, [], ◌∷◌, length, map, refl, sym, ap, ◌∙◌, arith, eq-eqb, ◌<◌}
 use Rattle.flow_node.proofs.JoinLemmas.{join-keeps}
 use Rattle.flow_item.specs.declared.item.Id.{Id}
 use Rattle.std.specs.Prelude.{is_none, is_some, IsSome}
@@ -24,9 +24,8 @@ use Rattle.flow_item.specs.declared.event.Parties.{Parties}
 use Rattle.flow_item.specs.Events.{parties_of, both, ends}
 use Rattle.flow_item.specs.Legal.{takes_part, is_second}
 use Rattle.flow_item.specs.Values.{same_item}
-use Rattle.flow_item.specs.Lists.{has, is_empty, first, drop_first, without}
+use Rattle.flow_item.specs.Lists.{has, is_empty, first, without}
 use Rattle.flow_item.proofs.Tests.{and_left, and_right}
-use Rattle.flow_item.proofs.Equal.{item-equal}
 use Rattle.flow_shape.specs.declared.Kind.TheVariants as K
 use Rattle.flow_shape.specs.declared.Wire.{Wire}
 use Rattle.flow_shape.specs.Kinds.{is_keeping, is_discarding, is_for_callers}

@@ -1,5 +1,5 @@
 -- What a store offers, and what it has after its steps.
-use Rattle.std.proofs.Common.{◌≡◌, ℕ, zero, suc, ◌+◌, ◌<◌, ◌≤◌, ◌^◌, Bool, true, false, not, ◌&&◌, ◌||◌, cond, eqb, ltb, leb, Option, Some, None, List, [], ◌∷◌, ◌++◌, length, take, drop, filter, refl, sym, ap, ◌∙◌, arith, eq-eqb, subst}
+use Rattle.std.proofs.Common.{◌≡◌, ℕ, suc, ◌+◌, ◌<◌, ◌≤◌, ◌^◌, Bool, true, false, ◌&&◌, ◌||◌, cond, ltb, Option, Some, None, List, [], ◌∷◌, length, take, drop, filter, refl, ap, ◌∙◌, arith, eq-eqb}
 use Rattle.std.specs.Prelude.{is_none, slice_get}
 use Rattle.std.specs.Option.{option_map, option_or}
 use Rattle.std.specs.List.{list_all, list_any, find}
@@ -18,15 +18,15 @@ use Rattle.flow_item.proofs.Equal.{item-equal}
 use Rattle.flow_shape.specs.declared.Kind.{Kind}
 use Rattle.flow_shape.specs.declared.Kind.TheVariants as K
 use Rattle.flow_shape.specs.Places.{Place}
-use Rattle.flow_machine.specs.State.{StoreState, Part, store_part, keeper_part, body_part, input_part, limiter_part, join_part, reserve_part, broadcast_part, split_part, continue_part, option_list, item_of}
-use Rattle.flow_machine.specs.Offers.{when, store_front, first_greatest, first_of_greater, candidates, part_candidates, Room, lands, bars, part_room}
+use Rattle.flow_machine.specs.State.{StoreState, Part, store_part, option_list, item_of}
+use Rattle.flow_machine.specs.Offers.{when, store_front, first_greatest, first_of_greater, part_candidates, lands}
 use Rattle.flow_machine.specs.Enabled.{is_numbered}
 use Rattle.flow_machine.specs.After.{next_tag, part_after_arrival, part_after_give, part_after_refuse, part_after_start, part_after_shut, part_after_cancel, part_after_end}
 use Rattle.flow_machine.specs.PrintOrder.{insert_by, sorted_by, store_in_order, ranks_before, tagged_before}
 use Rattle.flow_machine.specs.Wishes.{offer_wish}
 use Rattle.flow_machine.specs.declared.Wish.{Wish}
 use Rattle.flow_machine.specs.declared.Wish.TheVariants as W
-use Rattle.flow_store.specs.Stores.{may_go, goes, is_new, tag_after, after_put}
+use Rattle.flow_store.specs.Stores.{may_go, is_new, tag_after, after_put}
 use Rattle.flow_node.specs.Parts.{takes_in, with_item}
 use Rattle.flow_node.specs.Kept.{place_with, state_with, is_counted}
 use Rattle.flow_node.specs.declared.base.Base.{Base}

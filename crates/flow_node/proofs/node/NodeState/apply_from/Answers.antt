@@ -1,4 +1,3 @@
-use Rattle.flow_node.specs.Changes.{ChangesFrom}
 use Rattle.flow_node.proofs.node.NodeState.apply_from.Goals as goal
 
 pub change_from-requires : goal.change_from-requires

@@ -1,4 +1,3 @@
-use Rattle.flow_node.specs.Changes.{ChangesOne}
 use Rattle.flow_node.proofs.node.NodeState.apply_one.Goals as goal
 
 pub change_one-requires : goal.change_one-requires

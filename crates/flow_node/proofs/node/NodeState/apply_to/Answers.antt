@@ -1,4 +1,3 @@
-use Rattle.flow_node.specs.Changes.{ChangesTo}
 use Rattle.flow_node.proofs.node.NodeState.apply_to.Goals as goal
 
 pub change_to-requires : goal.change_to-requires

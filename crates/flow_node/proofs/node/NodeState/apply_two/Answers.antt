@@ -1,4 +1,3 @@
-use Rattle.flow_node.specs.Changes.{ChangesTwo}
 use Rattle.flow_node.proofs.node.NodeState.apply_two.Goals as goal
 
 pub change_two-requires : goal.change_two-requires

@@ -35,7 +35,7 @@ returns-in-None-clause-node c =
     let b = c.self-in-None.inside.base in
     let p = c.self-in-None.inside.part in
     let view = ap (λ (r : Readied). r.node) c.self-in-None.view_is in
-    from-steps b p view c.self-in-None.invariant c.args.change _ _ c.in-None.is (turn-step b c.turn_to_push.new.self p c.in-None.edge view c.turn_to_push.ensures.items c.turn_to_push.ensures.same)
+    from-steps b p view c.self-in-None.invariant c.args.change _ _ c.in-None.is (turn-step c.args.self.now b c.turn_to_push.new.self p c.in-None.edge view c.turn_to_push.ensures.items c.turn_to_push.ensures.same)
 
 pub returns-in-None-clause-given : goal.returns-in-None-clause-given
 returns-in-None-clause-given c = from-hands c.args.change _ _ c.in-None.is refl
@@ -45,4 +45,4 @@ unreachable-requires c =
     let b = c.self-in_default.inside.base in
     let p = c.self-in_default.inside.part in
     let needs = from-needs b p (ap (λ (r : Readied). r.node) c.self-in_default.view_is) c.self-in_default.invariant c.args.change _ refl c.requires.0 c.requires.1 in
-    only-from c.args.change needs c.in_default.not-Give c.in_default.not-Refuse c.in_default.not-None
+    only-from c.args.self.now c.args.change needs c.in_default.not-Give c.in_default.not-Refuse c.in_default.not-None

@@ -13,7 +13,7 @@ unreachable-requires c =
     let b = c.self-in_default.inside.base in
     let p = c.self-in_default.inside.part in
     let needs = to-needs b p (ap (λ (r : Readied). r.node) c.self-in_default.view_is) c.self-in_default.invariant c.args.change _ c.args.given refl c.requires.0 c.requires.1 in
-    only-to c.args.given c.args.change needs c.in_default.not-Give
+    only-to c.args.self.now c.args.given c.args.change needs c.in_default.not-Give
 
 pub returns : goal.returns
 returns c =

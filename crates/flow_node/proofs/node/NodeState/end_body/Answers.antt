@@ -2,7 +2,6 @@ use Rattle.std.proofs.Common.{◌≡◌, true, ◌+◌, ◌≤◌, if◌then◌e
 use Rattle.flow_machine.specs.State.{casts_of}
 use Rattle.flow_machine.specs.Enabled.{may_end}
 use Rattle.flow_node.specs.Readied.{Readied, runs_bodies}
-use Rattle.flow_node.specs.Changes.{EndsBody}
 use Rattle.flow_node.specs.Parts.{cast_in}
 use Rattle.flow_machine.specs.After.{part_after_end}
 use Rattle.flow_node.specs.Kept.{kind_of, part_of, coming_of, is_counted, place_of}
