@@ -1,5 +1,5 @@
 -- The job of a body that may start, the end of one that runs, and tickets that come back.
-use Rattle.std.proofs.Common.{◌≡◌, ◌≢◌, ℕ, ◌<◌, ◌≤◌, Bool, true, false, cond, eqb, ltb, Option, Some, None, List, [], ◌∷◌, ◌++◌, refl, sym, ap, ◌∙◌, arith, eq-eqb}
+use Rattle.std.proofs.Common.{◌≡◌, ◌≢◌, ℕ, ◌<◌, ◌≤◌, Bool, true, false, cond, eqb, ltb, Option, Some, None, List, [], ◌∷◌, ◌++◌, refl, sym, ap, ◌∙◌, arith}
 use Rattle.std.specs.Prelude.{slice_get, is_none}
 use Rattle.std.proofs.lemmas.Bool.{eqb-true, ltb-true}
 use Rattle.std.proofs.lemmas.List.{same_from_push}
@@ -7,7 +7,6 @@ use Rattle.std.specs.List.{list_any, list_all}
 use Rattle.flow_item.specs.declared.item.Item.{Item}
 use Rattle.flow_item.specs.declared.event.Event.{Event}
 use Rattle.flow_item.specs.declared.event.Party.{Party}
-use Rattle.flow_item.specs.declared.event.Party.TheVariants.{Node, Caller, Worker}
 use Rattle.flow_item.specs.declared.event.Parties.{Parties}
 use Rattle.flow_item.specs.Events.{same_party, parties_of, births_of, both}
 use Rattle.flow_item.specs.Legal.{takes_part, projection}
@@ -22,6 +21,7 @@ use Rattle.flow_machine.specs.Enabled.{is_numbered, first_is, is_input_ready, ma
 use Rattle.flow_machine.proofs.Frames.{Fits}
 use Rattle.flow_node.specs.NodeViews.{ticket_items, first_ready as ready_of}
 use Rattle.flow_line.specs.Values.{Sitting, IsMadeByTwo}
+use Rattle.flow_line.proofs.Committed.{same_self}
 use Rattle.flow_book.specs.declared.machine.Run.{Run}
 use Rattle.flow_book.specs.Answers as a
 use Rattle.flow_book.specs.Jobs as j
@@ -29,18 +29,13 @@ use Rattle.flow_book.proofs.Sizes.{size_of}
 
 -- ---- the event is the last that was seen
 
-same-self : (p : Party) → same_party p p ≡ true
-same-self (Node n) = eq-eqb n n refl
-same-self (Caller n) = eq-eqb n n refl
-same-self (Worker n) = eq-eqb n n refl
-
 with-last : (p : Party) (log : List Event) (e : Event) → takes_part (parties_of e) p ≡ true → projection parties_of p (log ++ e ∷ []) ≡ projection parties_of p log ++ e ∷ []
 with-last p log e t = projection-append parties_of p log (e ∷ []) ∙ ap (λ b. projection parties_of p log ++ cond b (e ∷ []) []) t
 
 pub placed-by_two : (s c s' c' : Sitting Event Run) (e : Event) → IsMadeByTwo births_of s c e s' c' → parties_of e ≡ both s.party c.party
     → s'.own ≡ projection parties_of s'.party s'.seen → a.IsPlaced s e c'
 placed-by_two s c s' c' e m pair own =
-    let t : takes_part (parties_of e) s.party ≡ true = ap (λ (ps : Parties). takes_part ps s.party) pair ∙ or_first (same_party s.party s.party) (same_party c.party s.party) (same-self s.party) in
+    let t : takes_part (parties_of e) s.party ≡ true = ap (λ (ps : Parties). takes_part ps s.party) pair ∙ or_first (same_party s.party s.party) (same_party c.party s.party) (same_self s.party) in
     let whole : s.own ++ e ∷ [] ≡ projection parties_of s.party m.0 ++ e ∷ [] =
     sym (ap (λ (x : Sitting Event Run). x.own) m.3) ∙ (own ∙ ((λ i. projection parties_of ((ap (λ (x : Sitting Event Run). x.party) m.3) i) ((ap (λ (x : Sitting Event Run). x.seen) m.3) i)) ∙ with-last s.party m.0 e t)) in
     (m.0, ap (λ (x : Sitting Event Run). x.seen) m.4, (same_from_push s.own (projection parties_of s.party m.0) e e whole).0)

@@ -13,8 +13,11 @@ use std::alloc::Global;
 /// A body that a worker has started: its node, the item that it runs on, and what is to be run.
 #[derive(Debug, Drop)]
 pub struct Job {
+    /// The number of the node.
     pub node: u32,
+    /// A copy of the item.
     pub item: Item,
+    /// The body, or what is to be submitted.
     pub body: JobBody,
 }
 
@@ -27,11 +30,14 @@ pub enum JobBody {
     Submit { arg: Val },
 }
 
-/// A job that couldn't be ended: it still runs. Its messages come with it, unless they stand in the event that the chair keeps.
+/// A job that couldn't be ended, and its messages.
 #[derive(Debug, Drop)]
 pub struct Unfinished {
+    /// The job that still runs.
     pub job: Job,
+    /// All messages with which it was to end, or none where the chair keeps them.
     pub outs: Outs,
+    /// Why it couldn't be ended.
     pub stop: Stop,
 }
 
