@@ -13,6 +13,7 @@ ghost use Rattle.flow_book.specs.Callers.{may_call};
 ghost use Rattle.flow_book.specs.Opening.{callers_of, workers_of};
 ghost use Rattle.flow_shape.specs.Rules.{IsValid};
 ghost use Rattle.flow_work.specs.Promises.{FollowsScripts, CompletesScripts, HeedsWaits, KeepsBodies, ItemsHaveOneFate, ItemsHaveLineages, HoldsReserve, NothingIsHeld, ParentsWereBorn, IsFresh, SameDocument, is_limit};
+ghost use Rattle.flow_work.specs.Results.{KeepsMeaning};
 ghost use Rattle.flow_work.specs.Runs.{is_good_step};
 ghost use Rattle.flow_crew.specs.Crew.{IsCaller, IsWorker};
 ghost use Rattle.flow_run.specs.Following.{FollowsOwn, IsNew};
@@ -339,6 +340,7 @@ pub fn run_all<R: Threads + Wait + Sync, S: Bodies, G: Gate>(
     ensures settled { OnOk result (IsSettled doc.now.shape kept.new.journal) }
     ensures released { OnOk result (NothingIsHeld doc.now.shape kept.new.journal) }
     ensures parents { OnOk result (ParentsWereBorn doc.now.shape kept.new.journal) }
+    ensures meaning { OnOk result (KeepsMeaning (S.meanings bodies.now) doc.now kept.new.journal) }
     ensures refused { IfSome
         kept.new.refused
         (IsRefusedWithin (S.meanings bodies.now) doc.now.shape doc.now.scripts (workers + length doc.now.scripts) items events kept.new.journal) }
