@@ -1,10 +1,10 @@
 -- The nodes that a closed book hands on are those after its journal.
-use Rattle.std.proofs.Common.{◌≡◌, ℕ, zero, suc, ◌+◌, ◌≤◌, ◌<◌, Bool, true, false, Option, Some, None, List, [], ◌∷◌, ◌++◌, length, set, map, replicate, refl, sym, ap, ◌∙◌, subst, arith, All}
+use Rattle.std.proofs.Common.{◌≡◌, ℕ, zero, suc, ◌+◌, ◌≤◌, ◌<◌, Bool, true, false, Option, Some, None, List, [], ◌∷◌, ◌++◌, length, set, get_or, map, replicate, refl, sym, ap, ◌∙◌, subst, arith, append_assoc, append-nil, All}
 use Rattle.std.specs.Prelude.{slice_get, IfSome}
 use Rattle.std.specs.Option.{option_map}
 use Rattle.std.proofs.lemmas.List.{map-append, length-map, length-append}
 use Rattle.std.proofs.lemmas.List.Elements.{All-head, All-tail}
-use Rattle.std.proofs.lemmas.Option.{same_Some}
+use Rattle.std.proofs.lemmas.Option.{same_Some, slice_get_read}
 use Rattle.flow_item.specs.declared.event.Event.{Event}
 use Rattle.flow_item.specs.declared.event.Party.{Party}
 use Rattle.flow_item.specs.declared.event.Party.TheVariants.{Node}
@@ -45,6 +45,22 @@ marked-all [] at h = refl
 marked-all (r ∷ rs) zero h = let never : ⊥ = omega (arith, h) in absurd never
 marked-all (r ∷ rs) (suc at) h = ap (λ bs. is_waiting r.node ∷ bs) (marked-all rs at (omega (arith, h)))
 
+length-marked : (at : ℕ) (rs : List Readied) → length (marked at rs) ≡ length rs
+length-marked at [] = refl
+length-marked zero (r ∷ rs) = ap suc (length-marked zero rs)
+length-marked (suc at) (r ∷ rs) = ap suc (length-marked at rs)
+
+-- there is a flag for each node
+pub within-marked : (rs : List Readied) (at : ℕ) (due : List Bool) → due ≡ marked at rs → at < length rs → at < length due
+within-marked rs at due is low = let same = ap length is ∙ length-marked at rs in omega (arith, low, same)
+
+-- one more is told of
+pub marked-next : (rs : List Readied) (at : ℕ) (r : Readied) (due now : List Bool) (waits : Bool) → due ≡ marked at rs → at < length rs → r ≡ get_or rs at r → waits ≡ is_waiting r.node → now ≡ set due at waits
+    → now ≡ marked (at + 1) rs
+marked-next rs at r due now waits is low read told is_now =
+    let next : suc at ≡ at + 1 = omega arith in
+    is_now ∙ ((λ i. set (is i) at (told i)) ∙ (marked-more rs at r (slice_get_read rs (length rs) at r refl low read) ∙ ap (λ n. marked n rs) next))
+
 -- ---- one more node
 
 seated-more : (n : ℕ) (cs : List (Sitting Event Run)) (vs : List PlacedNode) (c : Sitting Event Run) (v : PlacedNode) → AreSeated n cs vs → c.party ≡ Node (n + length vs) → replayed c ≡ Some v
@@ -55,6 +71,17 @@ seated-more n (d ∷ cs) [] c v h party replay = absurd h
 seated-more n (d ∷ cs) (w ∷ vs) c v h party replay =
     let next : n + suc (length vs) ≡ suc n + length vs = omega arith in
     (h.0, h.1, seated-more (suc n) cs vs c v h.2 (party ∙ ap Node next) replay)
+
+pub taken-none : (before : List (Sitting Event Run)) (rs : List Readied) → rs ≡ [] → AreTaken (length rs) before before (Some rs)
+taken-none before rs none = subst (λ rs. AreTaken (length rs) before before (Some rs)) (sym none) record { chairs = []; behind = sym (append-nil before); theirs = (refl, tt) }
+
+-- without the nodes
+pub taken-not : (m n : ℕ) (before after more : List (Sitting Event Run)) (o : Option (List Readied)) → AreTaken m before after o → more ≡ after → AreTaken n before more None
+taken-not m n before after more o h same = record { chairs = h.chairs; behind = same ∙ h.behind; theirs = tt }
+
+-- so many
+pub taken-all : (count : ℕ) (before after : List (Sitting Event Run)) (rs : List Readied) → AreTaken (length rs) before after (Some rs) → length rs ≡ count → AreTaken count before after (Some rs)
+taken-all count before after rs h all = subst (λ n. AreTaken n before after (Some rs)) all h
 
 -- one more was taken from behind its lock
 pub taken-more : (before after more : List (Sitting Event Run)) (rs now : List Readied) (r : Readied) (c : Sitting Event Run) → AreTaken (length rs) before after (Some rs)

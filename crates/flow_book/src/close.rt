@@ -63,12 +63,12 @@ fn take_nodes<B: Naming>(
             return None;
         }
         let (node, chair) = post.into_parts();
-        if nodes.push(node).is_err() {
+        let Ok(()) = nodes.push(node) else {
             return None;
-        }
-        if workers.push(chair).is_err() {
+        };
+        let Ok(()) = workers.push(chair) else {
             return None;
-        }
+        };
     }
     match waiting(alloc, &nodes) {
         Ok(due) => Some(Nodes::from_parts(nodes, due)),

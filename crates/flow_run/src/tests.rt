@@ -108,8 +108,9 @@ fn the_nodes_as_a_run_leaves_them(rt: HostRuntime) -> Result<(), Fail> {
     let alloc = rt.alloc();
     let doc = function_into_queue(alloc)?;
     let mut kept = Kept::new(alloc);
-    let (ran, nodes) =
-        run_all_with_nodes(&rt, alloc, &doc, &Builtin, &NoGate, 2, 100, 1000, &mut kept);
+    let (ran, nodes) = run_all_with_nodes(
+        &rt, alloc, &doc, &Builtin, &NoGate, 2, 100, 1000, &mut kept,
+    );
     assert!(rt; ran.is_ok());
     let nodes = nodes.ok_or("no nodes")?;
     assert_eq!(rt; nodes.find(Some(1)).map(|node| node.made()), Some(2));

@@ -6,8 +6,8 @@ use Rattle.flow_book.proofs.close.take_nodes.Given as goal
 abbrev pub invariant-loop-post : goal.invariant-loop-post
 invariant-loop-post g l = record {
   taken : AreTaken (length l.nodes.items) l.initial.workers.items l.workers.items (Some l.nodes.items);
-  all : length l.posts.items + length l.nodes.items ≡ vec_len l.fn.posts;
+  all : vec_len l.posts + length l.nodes.items ≡ vec_len l.fn.posts;
 }
 
 abbrev pub decreases-loop-post : goal.decreases-loop-post
-decreases-loop-post g l = length l.posts.items
+decreases-loop-post g l = vec_len l.posts
