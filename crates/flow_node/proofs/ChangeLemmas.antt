@@ -27,7 +27,7 @@ use Rattle.flow_machine.specs.Offers.{candidates, lands, next_tuple, room}
 use Rattle.flow_machine.specs.Enabled.{allows_at, is_numbered, may_split}
 use Rattle.flow_machine.specs.After.{link_of, part_after_start, part_after_shut, part_after_cancel}
 use Rattle.flow_node.specs.Built.{is_built, is_reserving}
-use Rattle.flow_node.specs.Readied.{Readied, IsPrepared, stepped, landed, body_ended, tuple_formed, given_from, refused_at, given_value, is_from, is_loop, starts_at, loops, suits}
+use Rattle.flow_node.specs.Readied.{Readied, IsPrepared, stepped, landed, body_ended, tuple_formed, given_from, refused_at, given_value, is_from, starts_at, loops, suits}
 use Rattle.flow_node.specs.Changes.{change_of, ChangesOne, ChangesFrom, ChangesTo, ChangesTwo, EndsBody}
 use Rattle.flow_node.specs.Kept.{part_of, kind_of, placed, IsKept}
 use Rattle.flow_node.specs.declared.base.Base.{Base}
