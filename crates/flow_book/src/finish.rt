@@ -140,8 +140,8 @@ impl<B: Naming> Book<B> {
     /// comes back, with its messages unless the chair keeps the event that has them.
     pub fn finish<R: Wait, G: Gate>(
         &self,
-        alloc: Global,
         rt: &R,
+        alloc: Global,
         w: &mut Chair<GraphMachine, B>,
         job: Job,
         outs: Outs,
@@ -156,7 +156,7 @@ impl<B: Naming> Book<B> {
         ensures job { IfErr result (λ u. u.job ≡ job) }
         ensures outs { IfErr result (λ u. u.outs ≡ outs_back w.old.kept u.stop outs) }
     {
-        match self.try_finish(alloc, rt, w, job, outs, gate) {
+        match self.try_finish(rt, alloc, w, job, outs, gate) {
             Ok(()) => Ok(()),
             Err(unfinished) => {
                 self.store(rt, w, unfinished.stop);
@@ -168,8 +168,8 @@ impl<B: Naming> Book<B> {
     // Ends a job. A refusal is not yet stored.
     fn try_finish<R: Wait, G: Gate>(
         &self,
-        alloc: Global,
         rt: &R,
+        alloc: Global,
         w: &mut Chair<GraphMachine, B>,
         job: Job,
         outs: Outs,
@@ -185,17 +185,17 @@ impl<B: Naming> Book<B> {
         ensures outs { IfErr result (λ u. u.outs ≡ outs_back w.old.kept u.stop outs) }
     {
         if is_input(&self.run.shape, job.node) && outs.len() > 1 {
-            self.finish_first(alloc, rt, w, job, outs, gate)
+            self.finish_first(rt, alloc, w, job, outs, gate)
         } else {
-            self.finish_all(alloc, rt, w, job, outs, gate)
+            self.finish_all(rt, alloc, w, job, outs, gate)
         }
     }
 
     // Ends a job of an input node with the first of several messages.
     fn finish_first<R: Wait, G: Gate>(
         &self,
-        alloc: Global,
         rt: &R,
+        alloc: Global,
         w: &mut Chair<GraphMachine, B>,
         job: Job,
         outs: Outs,
@@ -230,8 +230,8 @@ impl<B: Naming> Book<B> {
     // Ends a job with all messages.
     fn finish_all<R: Wait, G: Gate>(
         &self,
-        alloc: Global,
         rt: &R,
+        alloc: Global,
         w: &mut Chair<GraphMachine, B>,
         job: Job,
         outs: Outs,
@@ -292,8 +292,8 @@ impl<B: Naming> Book<B> {
     /// the chair keeps the event that has them.
     pub fn back<R: Wait, G: Gate>(
         &self,
-        alloc: Global,
         rt: &R,
+        alloc: Global,
         w: &mut Chair<GraphMachine, B>,
         ask: &Ask,
         outs: Outs,
@@ -309,7 +309,7 @@ impl<B: Naming> Book<B> {
         if self.run.shape.nodes.len() <= ask.node as usize {
             return Ok(Took::Stranger);
         }
-        match self.back_at(alloc, rt, w, ask, outs, gate) {
+        match self.back_at(rt, alloc, w, ask, outs, gate) {
             Ok(took) => Ok(took),
             Err(refused) => {
                 self.store(rt, w, refused.1);
@@ -321,8 +321,8 @@ impl<B: Naming> Book<B> {
     // Brings an answer back to a node of the graph.
     fn back_at<R: Wait, G: Gate>(
         &self,
-        alloc: Global,
         rt: &R,
+        alloc: Global,
         w: &mut Chair<GraphMachine, B>,
         ask: &Ask,
         outs: Outs,

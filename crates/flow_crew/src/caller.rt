@@ -45,8 +45,8 @@ impl<B: Naming> Caller<B> {
     /// Puts a value to a node.
     pub fn put<R: Wait, S: Bodies, G: Gate>(
         &mut self,
-        alloc: Global,
         rt: &R,
+        alloc: Global,
         graph: &Graph<S, G, B>,
         node: u32,
         port: u32,
@@ -64,7 +64,7 @@ impl<B: Naming> Caller<B> {
         ensures made { IfOk result (λ a. IsDone self.old.chair (E.Put (number_of self.old.chair.party) node port tag val.now a) self.new.chair) }
         ensures stopped { IfErr result (λ s. IsHalted self.old.chair (λ e. (a : PutAnswer) × (e ≡ E.Put (number_of self.old.chair.party) node port tag val.now a)) self.new.chair s) }
     {
-        match graph.book.put(alloc, rt, &mut self.chair, node, port, tag, val, graph.gate) {
+        match graph.book.put(rt, alloc, &mut self.chair, node, port, tag, val, graph.gate) {
             Ok(answer) => {
                 graph.inject(rt, &mut self.worker.post, node);
                 Ok(answer)
@@ -79,7 +79,6 @@ impl<B: Naming> Caller<B> {
     /// Starts an input node.
     pub fn activate<R: Wait, S: Bodies, G: Gate>(
         &mut self,
-        alloc: Global,
         rt: &R,
         graph: &Graph<S, G, B>,
         node: u32,
@@ -95,10 +94,7 @@ impl<B: Naming> Caller<B> {
         ensures made { OnOk result (IsDone self.old.chair (E.Act (number_of self.old.chair.party) node) self.new.chair) }
         ensures stopped { IfErr result (λ s. IsHalted self.old.chair (Was (E.Act (number_of self.old.chair.party) node)) self.new.chair s) }
     {
-        match graph
-            .book
-            .activate(alloc, rt, &mut self.chair, node, graph.gate)
-        {
+        match graph.book.activate(rt, &mut self.chair, node, graph.gate) {
             Ok(()) => {
                 graph.inject(rt, &mut self.worker.post, node);
                 Ok(())
@@ -192,8 +188,8 @@ impl<B: Naming> Caller<B> {
     // One round of the wait.
     fn round<R: Wait, S: Bodies, G: Gate>(
         &mut self,
-        alloc: Global,
         rt: &R,
+        alloc: Global,
         graph: &Graph<S, G, B>,
     ) -> Option<Waited>
         requires of { IsCaller (S.meanings graph.now.bench.bodies.now) graph.now.book.run graph.now.book.items graph.now.book.events self.old.chair }
@@ -208,7 +204,7 @@ impl<B: Naming> Caller<B> {
         ensures idle { IfNone result (self.new.worker.busy ≡ false) }
         ensures ended { IfSome result (λ w. IsWaited graph.now.book.run self.old.chair w self.new.chair) }
     {
-        match self.worker.turn(alloc, rt, graph) {
+        match self.worker.turn(rt, alloc, graph) {
             Turn::Served => None,
             Turn::Refused => {
                 graph.bell.go();
@@ -230,8 +226,8 @@ impl<B: Naming> Caller<B> {
     /// Works until nothing is open, or a call is refused.
     pub fn wait_for_all<R: Wait, S: Bodies, G: Gate>(
         &mut self,
-        alloc: Global,
         rt: &R,
+        alloc: Global,
         graph: &Graph<S, G, B>,
     ) -> Waited
         requires of { IsCaller (S.meanings graph.now.bench.bodies.now) graph.now.book.run graph.now.book.items graph.now.book.events self.old.chair }
@@ -249,7 +245,7 @@ impl<B: Naming> Caller<B> {
         }
         self.worker.come(graph);
         for _ in rt.forever() {
-            if let Some(waited) = self.round(alloc, rt, graph) {
+            if let Some(waited) = self.round(rt, alloc, graph) {
                 return waited;
             }
         }

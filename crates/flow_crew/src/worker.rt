@@ -68,8 +68,8 @@ impl<B: Naming> Worker<B> {
     // Serves a node of the pool.
     pub(crate) fn turn<R: Wait, S: Bodies, G: Gate>(
         &mut self,
-        alloc: Global,
         rt: &R,
+        alloc: Global,
         graph: &Graph<S, G, B>,
     ) -> Turn
         requires of { IsWorker (S.meanings graph.now.bench.bodies.now) graph.now.book.run graph.now.book.items graph.now.book.events self.old.chair self.old.busy }
@@ -81,16 +81,16 @@ impl<B: Naming> Worker<B> {
         ensures idle { is_refused result ≡ false → self.new.busy ≡ false }
     {
         match graph.pool.take(rt, &mut self.post) {
-            Some(node) => self.serve(alloc, rt, graph, node),
-            None => self.turn_again(alloc, rt, graph),
+            Some(node) => self.serve(rt, alloc, graph, node),
+            None => self.turn_again(rt, alloc, graph),
         }
     }
 
     // Listens, and looks once more.
     fn turn_again<R: Wait, S: Bodies, G: Gate>(
         &mut self,
-        alloc: Global,
         rt: &R,
+        alloc: Global,
         graph: &Graph<S, G, B>,
     ) -> Turn
         requires of { IsWorker (S.meanings graph.now.bench.bodies.now) graph.now.book.run graph.now.book.items graph.now.book.events self.old.chair self.old.busy }
@@ -106,7 +106,7 @@ impl<B: Naming> Worker<B> {
             Some(node) => {
                 graph.bell.leave(self.waits);
                 graph.bell.ring();
-                self.serve(alloc, rt, graph, node)
+                self.serve(rt, alloc, graph, node)
             }
             None => Turn::Idle(last),
         }
@@ -115,8 +115,8 @@ impl<B: Naming> Worker<B> {
     // Serves a node.
     fn serve<R: Wait, S: Bodies, G: Gate>(
         &mut self,
-        alloc: Global,
         rt: &R,
+        alloc: Global,
         graph: &Graph<S, G, B>,
         node: u32,
     ) -> Turn
@@ -131,12 +131,12 @@ impl<B: Naming> Worker<B> {
     {
         match graph
             .book
-            .serve(alloc, rt, &mut self.chair, node, graph.gate)
+            .serve(rt, alloc, &mut self.chair, node, graph.gate)
         {
             Ok(did) => {
                 let _ = self.chair.len();
                 let _ = self.chair.own_len();
-                self.follow(alloc, rt, graph, did)
+                self.follow(rt, alloc, graph, did)
             }
             Err(_) => Turn::Refused,
         }
@@ -145,8 +145,8 @@ impl<B: Naming> Worker<B> {
     // Does what follows from what was done at a node.
     fn follow<R: Wait, S: Bodies, G: Gate>(
         &mut self,
-        alloc: Global,
         rt: &R,
+        alloc: Global,
         graph: &Graph<S, G, B>,
         did: Did,
     ) -> Turn
@@ -165,15 +165,15 @@ impl<B: Naming> Worker<B> {
                 graph.bell.tell();
                 turn_of(graph.push_nodes(rt, &mut self.post, first, second))
             }
-            Did::Start(job) => self.work(alloc, rt, graph, job),
+            Did::Start(job) => self.work(rt, alloc, graph, job),
         }
     }
 
     // Runs a job that the worker has started, while no lock is held, and ends it.
     fn work<R: Wait, S: Bodies, G: Gate>(
         &mut self,
-        alloc: Global,
         rt: &R,
+        alloc: Global,
         graph: &Graph<S, G, B>,
         job: Job,
     ) -> Turn
@@ -193,8 +193,8 @@ impl<B: Naming> Worker<B> {
             return Turn::Refused;
         }
         graph.bell.ring();
-        match graph.run_job(alloc, rt, &job) {
-            Some(outs) => self.finish(alloc, rt, graph, job, outs),
+        match graph.run_job(rt, alloc, &job) {
+            Some(outs) => self.finish(rt, alloc, graph, job, outs),
             None => Turn::Refused,
         }
     }
@@ -202,8 +202,8 @@ impl<B: Naming> Worker<B> {
     // Ends a job with these messages, and puts its node into the pool.
     fn finish<R: Wait, S: Bodies, G: Gate>(
         &mut self,
-        alloc: Global,
         rt: &R,
+        alloc: Global,
         graph: &Graph<S, G, B>,
         job: Job,
         outs: Outs,
@@ -221,7 +221,7 @@ impl<B: Naming> Worker<B> {
         ensures idle { is_refused result ≡ false → self.new.busy ≡ false }
     {
         let node = job.node;
-        if !self.end(alloc, rt, graph, job, outs) {
+        if !self.end(rt, alloc, graph, job, outs) {
             return Turn::Refused;
         }
         turn_of(graph.push(rt, &mut self.post, node))
@@ -230,8 +230,8 @@ impl<B: Naming> Worker<B> {
     // Ends a job with these messages. Answers whether it could: else the job still runs.
     fn end<R: Wait, S: Bodies, G: Gate>(
         &mut self,
-        alloc: Global,
         rt: &R,
+        alloc: Global,
         graph: &Graph<S, G, B>,
         job: Job,
         outs: Outs,
@@ -248,7 +248,7 @@ impl<B: Naming> Worker<B> {
     {
         let ended = graph
             .book
-            .finish(alloc, rt, &mut self.chair, job, outs, graph.gate)
+            .finish(rt, alloc, &mut self.chair, job, outs, graph.gate)
             .is_ok();
         let _ = self.chair.len();
         let _ = self.chair.own_len();
@@ -332,8 +332,8 @@ impl<B: Naming> Worker<B> {
     // One round of the work.
     fn round<R: Wait, S: Bodies, G: Gate>(
         &mut self,
-        alloc: Global,
         rt: &R,
+        alloc: Global,
         graph: &Graph<S, G, B>,
     ) -> Option<Waited>
         requires of { IsWorker (S.meanings graph.now.bench.bodies.now) graph.now.book.run graph.now.book.items graph.now.book.events self.old.chair self.old.busy }
@@ -345,7 +345,7 @@ impl<B: Naming> Worker<B> {
         ensures idle { IfNone result (self.new.busy ≡ false) }
         ensures ended { IfSome result (λ w. IsEnded graph.now.book.run self.old.chair w self.new.chair) }
     {
-        match self.turn(alloc, rt, graph) {
+        match self.turn(rt, alloc, graph) {
             Turn::Served => None,
             Turn::Refused => {
                 graph.bell.go();
@@ -367,8 +367,8 @@ impl<B: Naming> Worker<B> {
     /// Works until all callers have left and nothing is open, or a call is refused.
     pub fn run<R: Wait, S: Bodies, G: Gate>(
         &mut self,
-        alloc: Global,
         rt: &R,
+        alloc: Global,
         graph: &Graph<S, G, B>,
     ) -> Waited
         requires of { IsWorker (S.meanings graph.now.bench.bodies.now) graph.now.book.run graph.now.book.items graph.now.book.events self.old.chair self.old.busy }
@@ -383,7 +383,7 @@ impl<B: Naming> Worker<B> {
         }
         self.come(graph);
         for _ in rt.forever() {
-            if let Some(waited) = self.round(alloc, rt, graph) {
+            if let Some(waited) = self.round(rt, alloc, graph) {
                 return waited;
             }
         }

@@ -64,14 +64,14 @@ fn follow_all<B: Naming + Send + Sync, R: Threads + Wait + Sync, S: Bodies, G: G
             requires scripts { (site.now.graph.now.book.run.callers ≡ length site.now.doc.now.scripts) × (list_all (list_all (is_good_step site.now.graph.now.book.run.shape)) site.now.doc.now.scripts ≡ true) }
             ensures followed { IsCaller (S.meanings site.entry.now.graph.now.bench.bodies.now) site.entry.now.graph.now.book.run site.entry.now.graph.now.book.items site.entry.now.graph.now.book.events caller.new.chair × IsWorker (S.meanings site.entry.now.graph.now.bench.bodies.now) site.entry.now.graph.now.book.run site.entry.now.graph.now.book.items site.entry.now.graph.now.book.events caller.new.worker.chair caller.new.worker.busy × FollowsOwn site.entry.now.graph.now.book.run.shape site.entry.now.doc.now.scripts caller.new.chair }
             ensures party { (caller.new.chair.party ≡ caller.old.chair.party) × (caller.new.worker.chair.party ≡ caller.old.worker.chair.party) }
-        { follow(site.alloc, site.rt, site.graph, caller, site.doc) },
+        { follow(site.rt, site.alloc, site.graph, caller, site.doc) },
     );
 }
 
 // A worker works until all have left and nothing is open, or something is refused.
 fn work<B: Naming, R: Wait, S: Bodies, G: Gate>(
-    alloc: Global,
     rt: &R,
+    alloc: Global,
     graph: &Graph<S, G, B>,
     worker: &mut Worker<B>,
 )
@@ -81,7 +81,7 @@ fn work<B: Naming, R: Wait, S: Bodies, G: Gate>(
     ensures post { IsPostOf graph.now.pool worker.new.post }
     ensures party { worker.new.chair.party ≡ worker.old.chair.party }
 {
-    let _ = worker.run(alloc, rt, graph);
+    let _ = worker.run(rt, alloc, graph);
 }
 
 // All workers work, each in a thread of its own where one can be made.
@@ -101,7 +101,7 @@ fn work_all<B: Naming + Send + Sync, R: Threads + Wait + Sync, S: Bodies, G: Gat
             requires { IsWorker (S.meanings site.now.graph.now.bench.bodies.now) site.now.graph.now.book.run site.now.graph.now.book.items site.now.graph.now.book.events worker.old.chair worker.old.busy × IsPostOf site.now.graph.now.pool worker.old.post }
             ensures worked { IsWorker (S.meanings site.entry.now.graph.now.bench.bodies.now) site.entry.now.graph.now.book.run site.entry.now.graph.now.book.items site.entry.now.graph.now.book.events worker.new.chair worker.new.busy × IsPostOf site.entry.now.graph.now.pool worker.new.post }
             ensures party { worker.new.chair.party ≡ worker.old.chair.party }
-        { work(site.alloc, site.rt, site.graph, worker) },
+        { work(site.rt, site.alloc, site.graph, worker) },
     );
 }
 
@@ -153,8 +153,8 @@ fn run_parts<B: Naming + Send + Sync, R: Threads + Wait + Sync, S: Bodies, G: Ga
     ensures worker_parties { map (λ w. w.chair.party) workers.new ≡ map (λ w. w.chair.party) workers.old }
 {
     let site = Site {
-        alloc,
         rt,
+        alloc,
         doc,
         graph,
     };
