@@ -22,8 +22,11 @@ use std::alloc::Global;
 /// A graph, its callers by their numbers, and its workers by theirs.
 #[derive(Drop)]
 pub struct Parts<'a, S: Bodies, G: Gate, B: Naming> {
+    /// What they share.
     pub graph: Graph<'a, S, G, B>,
+    /// One for each script of the document.
     pub callers: Vec<Caller<B>>,
+    /// Those that work from start to end.
     pub workers: Vec<Worker<B>>,
     /// Empty lists with room for all chairs.
     pub seats: Seats<B>,
@@ -84,7 +87,8 @@ impl<'a, S: Bodies, G: Gate, B: Naming> Parts<'a, S, G, B> {
         (book, seats)
     }
 
-    /// Ends the run: the whole journal, and the event that was refused first.
+    /// Ends the run: the whole journal, and the event of the first chair that keeps one, callers first and their own
+    /// workers last. Takes no memory, and time by the number of chairs.
     pub fn close(self) -> (Journal, Option<Event>)
         requires empty { (self.seats.callers.items ≡ []) × (self.seats.workers.items ≡ []) }
         requires room { (length self.callers.items ≤ self.seats.callers.spare) × (length self.workers.items + length self.callers.items ≤ self.seats.workers.spare) }
