@@ -42,7 +42,10 @@ impl<B: Naming> Caller<B> {
         }
     }
 
-    /// Puts a value to a node.
+    /// Puts a value to a node, and the node where all look for work. Answers what the machine answers then: the item's
+    /// number and where it landed, or why the node didn't take it. It waits for the lock of this node alone, and costs
+    /// copies of the value and what the node needs for an item. It is refused at a limit, of which the chair keeps
+    /// the event unless it keeps one, and for want of memory. A refusal calls on all who wait for work.
     pub fn put<R: Wait, S: Bodies, G: Gate>(
         &mut self,
         alloc: Global,
@@ -76,7 +79,7 @@ impl<B: Naming> Caller<B> {
         }
     }
 
-    /// Starts an input node.
+    /// Starts an input node; one that is started stays as it is. It costs and is refused as a put without its value.
     pub fn activate<R: Wait, S: Bodies, G: Gate>(
         &mut self,
         alloc: Global,
@@ -110,7 +113,9 @@ impl<B: Naming> Caller<B> {
         }
     }
 
-    /// Leaves.
+    /// Leaves, and puts and starts nothing from then on. The caller that leaves last calls on the workers, which end
+    /// once nothing is open. It waits for no node's lock, costs the same however large the graph is, and is refused as
+    /// a put is.
     pub fn leave<R: Wait, S: Bodies, G: Gate>(
         &mut self,
         rt: &R,
@@ -227,7 +232,10 @@ impl<B: Naming> Caller<B> {
         }
     }
 
-    /// Works until nothing is open, or a call is refused.
+    /// Works under its worker's chair until nothing is open, or a call is refused. Answers `Quiet` where it saw the
+    /// whole journal in this call and nothing was open then, which other callers may have changed since, and else the
+    /// first refusal of all calls. It sleeps while it finds no node. To ask what is open it takes the locks of all
+    /// nodes: once, and then whenever it is called on. A caller whose worker couldn't end a body is halted at once.
     pub fn wait_for_all<R: Wait, S: Bodies, G: Gate>(
         &mut self,
         alloc: Global,

@@ -129,7 +129,10 @@ fn hire_workers<B: Naming>(
 }
 
 impl<'a, S: Bodies, G: Gate, B: Naming> Graph<'a, S, G, B> {
-    /// A document's graph at its start, with a caller for each script and so many workers.
+    /// A document's graph at its start, with a caller for each script and so many workers. Each caller is a worker too
+    /// while it waits, with a number above those of the workers. The steps of the scripts are left to those who call.
+    /// Want of memory is the one error. It costs time by the size of the graph and by the number of callers and
+    /// workers.
     pub fn new(
         alloc: Global,
         doc: &'a Doc,

@@ -18,8 +18,11 @@ use flow_line::Naming;
 /// A graph, its callers by their numbers, and its workers by theirs.
 #[derive(Drop)]
 pub struct Parts<'a, S: Bodies, G: Gate, B: Naming> {
+    /// What they share.
     pub graph: Graph<'a, S, G, B>,
+    /// One for each script of the document.
     pub callers: Vec<Caller<B>>,
+    /// Those that work from start to end.
     pub workers: Vec<Worker<B>>,
     /// Empty lists with room for all chairs.
     pub seats: Seats<B>,
@@ -58,7 +61,8 @@ fn seat_callers<B: Naming>(mut callers: Vec<Caller<B>>, seats: &mut Seats<B>)
 }
 
 impl<'a, S: Bodies, G: Gate, B: Naming> Parts<'a, S, G, B> {
-    /// Ends the run: the whole journal, and the event that was refused first.
+    /// Ends the run: the whole journal, and the event of the first chair that keeps one, callers first and their own
+    /// workers last. Takes no memory, and time by the number of chairs.
     pub fn close(self) -> (Journal, Option<Event>)
         requires empty { (self.seats.callers.items ≡ []) × (self.seats.workers.items ≡ []) }
         requires room { (length self.callers.items ≤ self.seats.callers.spare) × (length self.workers.items + length self.callers.items ≤ self.seats.workers.spare) }
