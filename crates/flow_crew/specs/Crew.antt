@@ -21,6 +21,8 @@ use Rattle.flow_book.specs.Stopped.{Shows}
 use Rattle.flow_crew.specs.Bodies.{KeepsOwn}
 use Rattle.flow_crew.specs.declared.waited.Waited.{Waited}
 use Rattle.flow_crew.specs.declared.waited.Waited.TheVariants as W
+use Rattle.flow_crew.specs.declared.worker.Step.{Step}
+use Rattle.flow_crew.specs.declared.worker.Step.TheVariants as S
 use Rattle.flow_crew.specs.declared.worker.Turn.{Turn}
 use Rattle.flow_crew.specs.declared.worker.Turn.TheVariants as T
 
@@ -88,6 +90,11 @@ pub record HasWorked (c d : Sitting Event Run) : Type 0 where
 abbrev pub is_refused : Turn → Bool
 is_refused T.Refused = true
 is_refused t = false
+
+-- and in the look at a node
+abbrev pub is_halting : Step → Bool
+is_halting S.Refused = true
+is_halting s = false
 
 -- how a caller's wait ended, as its chair tells: it saw the whole journal at a moment of the call, and nothing was open; or it shows why all is halted
 abbrev pub IsWaited : Run → Sitting Event Run → Waited → Sitting Event Run → Type 0

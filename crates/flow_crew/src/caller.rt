@@ -220,7 +220,7 @@ impl<B: Naming> Caller<B> {
                     Some(waited)
                 }
                 None => {
-                    graph.bell.sleep(rt, true, last);
+                    self.worker.sleep(rt, graph, last);
                     None
                 }
             },
