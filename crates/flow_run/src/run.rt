@@ -16,6 +16,7 @@ ghost use Rattle.flow_work.specs.Plain.{AreNodesAfter};
 ghost use Rattle.flow_work.specs.Promises.{FollowsScripts, CompletesScripts, HeedsWaits, KeepsBodies, ItemsHaveOneFate, ItemsHaveLineages, HoldsReserve, NothingIsHeld, ParentsWereBorn, IsFresh, SameDocument, is_limit};
 ghost use Rattle.flow_work.specs.Results.{KeepsMeaning};
 ghost use Rattle.flow_work.specs.Runs.{is_good_step};
+ghost use Rattle.flow_crew.specs.Bodies.{AnswersOnce};
 ghost use Rattle.flow_crew.specs.Crew.{IsCaller, IsWorker};
 ghost use Rattle.flow_run.specs.Following.{FollowsOwn, IsNew};
 ghost use Rattle.flow_run.specs.Refusals.{IsRefusedWithin};
@@ -377,7 +378,15 @@ pub fn run_all_with_nodes<R: Threads + Wait + Sync, S: Bodies, G: Gate>(
     ensures limit { is_some kept.new.refused ≡ is_limit result.0 }
     ensures nodes { IfSome result.1 (AreNodesAfter doc.now.shape kept.new.journal) }
 {
+    answer_once(bodies);
     run_kept(rt, alloc, doc, bodies, gate, workers, items, events, kept)
+}
+
+// A body that is pure and single answers one message.
+fn answer_once<S: Bodies>(bodies: &S)
+    ensures { AnswersOnce (S.meanings bodies.now) }
+{
+    let _ = bodies;
 }
 
 /// Runs a document on threads, to the end, to a limit or to want of memory: its callers follow their scripts, and so many
