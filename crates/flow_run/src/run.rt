@@ -15,6 +15,7 @@ ghost use Rattle.flow_shape.specs.Rules.{IsValid};
 ghost use Rattle.flow_work.specs.Promises.{FollowsScripts, CompletesScripts, HeedsWaits, KeepsBodies, ItemsHaveOneFate, ItemsHaveLineages, HoldsReserve, NothingIsHeld, ParentsWereBorn, IsFresh, SameDocument, is_limit};
 ghost use Rattle.flow_work.specs.Results.{KeepsMeaning};
 ghost use Rattle.flow_work.specs.Runs.{is_good_step};
+ghost use Rattle.flow_crew.specs.Bodies.{AnswersOnce};
 ghost use Rattle.flow_crew.specs.Crew.{IsCaller, IsWorker};
 ghost use Rattle.flow_run.specs.Following.{FollowsOwn, IsNew};
 ghost use Rattle.flow_run.specs.Refusals.{IsRefusedWithin};
@@ -300,6 +301,13 @@ fn run_kept<R: Threads + Wait + Sync, S: Bodies, G: Gate>(
     }
 }
 
+// A body that is pure and single answers one message.
+fn answer_once<S: Bodies>(bodies: &S)
+    ensures { AnswersOnce (S.meanings bodies.now) }
+{
+    let _ = bodies;
+}
+
 /// Runs a document on threads, to the end, to a limit or to want of memory: its callers follow their scripts, and so many
 /// workers serve the nodes. A caller that waits serves too, as a worker of its own. Each has a thread where one can be made. After want of
 /// memory the journal so far is kept, and all that is said of it holds.
@@ -346,5 +354,6 @@ pub fn run_all<R: Threads + Wait + Sync, S: Bodies, G: Gate>(
         (IsRefusedWithin (S.meanings bodies.now) doc.now.shape doc.now.scripts (workers + length doc.now.scripts) items events kept.new.journal) }
     ensures limit { is_some kept.new.refused ≡ is_limit result }
 {
+    answer_once(bodies);
     run_kept(rt, alloc, doc, bodies, gate, workers, items, events, kept)
 }
