@@ -16,6 +16,7 @@ ghost use Rattle.flow_work.specs.Plain.{AreNodesAfter};
 ghost use Rattle.flow_work.specs.Promises.{FollowsScripts, CompletesScripts, HeedsWaits, KeepsBodies, ItemsHaveOneFate, ItemsHaveLineages, HoldsReserve, NothingIsHeld, ParentsWereBorn, IsFresh, SameDocument, is_limit};
 ghost use Rattle.flow_work.specs.Results.{KeepsMeaning};
 ghost use Rattle.flow_work.specs.Runs.{is_good_step};
+ghost use Rattle.flow_crew.specs.Bodies.{AnswersOnce};
 ghost use Rattle.flow_crew.specs.Crew.{IsCaller, IsWorker};
 ghost use Rattle.flow_run.specs.Following.{FollowsOwn, IsNew};
 ghost use Rattle.flow_run.specs.Refusals.{IsRefusedWithin};
@@ -331,6 +332,13 @@ fn run_kept<R: Threads + Wait + Sync, S: Bodies, G: Gate>(
     }
 }
 
+// A body that is pure and single answers one message.
+fn answer_once<S: Bodies>(bodies: &S)
+    ensures { AnswersOnce (S.meanings bodies.now) }
+{
+    let _ = bodies;
+}
+
 /// As `run_all`, and hands on the nodes as the run leaves them, so that what they keep is read without a replay. Only for
 /// want of memory there are none.
 pub fn run_all_with_nodes<R: Threads + Wait + Sync, S: Bodies, G: Gate>(
@@ -377,6 +385,7 @@ pub fn run_all_with_nodes<R: Threads + Wait + Sync, S: Bodies, G: Gate>(
     ensures limit { is_some kept.new.refused ≡ is_limit result.0 }
     ensures nodes { IfSome result.1 (AreNodesAfter doc.now.shape kept.new.journal) }
 {
+    answer_once(bodies);
     run_kept(rt, alloc, doc, bodies, gate, workers, items, events, kept)
 }
 

@@ -109,8 +109,7 @@ returns-clause-meaning g c =
     let workers = c.args.workers + length doc.scripts in
     let can = can-run (g.S.Bodies.count c.args.bodies.now) doc c.requires.fits c.requires.built c.requires.version in
     let legal = and_left (is_legal doc.shape es) (list_all (is_of_run doc.shape (length doc.scripts) workers) es) run.run in
-    let once = g.met.S.Bodies.answers_once c.args.bodies.now in
-    where_ok c.run_kept.result.0 (λ t. keeps-meaning (g.S.Bodies.meanings c.args.bodies.now) doc workers es once can.valid run.run run.bodies (run.whole t) (settles doc.shape es can.valid legal (run.closed t)))
+    where_ok c.run_kept.result.0 (λ t. keeps-meaning (g.S.Bodies.meanings c.args.bodies.now) doc workers es c.answer_once.ensures can.valid run.run run.bodies (run.whole t) (settles doc.shape es can.valid legal (run.closed t)))
 
 pub returns-clause-legal_run : goal.returns-clause-legal_run
 returns-clause-legal_run g c = c.run_kept.ensures.run.run
