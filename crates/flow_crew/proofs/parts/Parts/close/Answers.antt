@@ -1,5 +1,7 @@
-use Rattle.std.proofs.Common.{◌≡◌, ◌++◌, All, sym, ap, ◌∙◌, subst}
+use Rattle.std.proofs.Common.{◌≡◌, ◌++◌, true, All, sym, ap, ◌∙◌, subst}
 use Rattle.flow_item.specs.Events.{parties_of}
+use Rattle.flow_machine.specs.Machine.{is_run}
+use Rattle.flow_laws.specs.Moments.{AtEachStart, EdgesAgree, HoldsAgree, NodesWithinLimits, LedgerAddsUp}
 use Rattle.flow_line.specs.Values.{IsPart}
 use Rattle.flow_line.specs.Kept.{first_kept}
 use Rattle.flow_book.specs.Answers.{about_of}
@@ -32,3 +34,18 @@ pub returns-clause-kept : goal.returns-clause-kept
 returns-clause-kept g c =
     let told = c.into_seats-book.ensures in
     c.close.ensures.kept ∙ ap first_kept (λ i. told.callers i ++ told.workers i)
+
+pub returns-clause-run : goal.returns-clause-run
+returns-clause-run g c = subst (λ b. is_run b.run.shape b.run.callers b.run.workers c.close.result.0 ≡ true) c.into_seats-book.ensures.book c.close.ensures.run
+
+pub returns-clause-edges : goal.returns-clause-edges
+returns-clause-edges g c = subst (λ b. AtEachStart (EdgesAgree b.run.shape) c.close.result.0) c.into_seats-book.ensures.book c.close.ensures.edges
+
+pub returns-clause-holds : goal.returns-clause-holds
+returns-clause-holds g c = subst (λ b. AtEachStart (HoldsAgree b.run.shape) c.close.result.0) c.into_seats-book.ensures.book c.close.ensures.holds
+
+pub returns-clause-node_limits : goal.returns-clause-node_limits
+returns-clause-node_limits g c = subst (λ b. AtEachStart (NodesWithinLimits b.run.shape) c.close.result.0) c.into_seats-book.ensures.book c.close.ensures.node_limits
+
+pub returns-clause-ledger : goal.returns-clause-ledger
+returns-clause-ledger g c = subst (λ b. AtEachStart (LedgerAddsUp b.run.shape) c.close.result.0) c.into_seats-book.ensures.book c.close.ensures.ledger
