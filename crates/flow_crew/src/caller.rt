@@ -42,11 +42,14 @@ impl<B: Naming> Caller<B> {
         }
     }
 
-    /// Puts a value to a node.
+    /// Puts a value to a node, and the node where all look for work. Answers what the machine answers then: the item's
+    /// number and where it landed, or why the node didn't take it. It waits for the lock of this node alone, and costs
+    /// copies of the value and what the node needs for an item. It is refused at a limit, of which the chair keeps
+    /// the event unless it keeps one, and for want of memory. A refusal calls on all who wait for work.
     pub fn put<R: Wait, S: Bodies, G: Gate>(
         &mut self,
-        alloc: Global,
         rt: &R,
+        alloc: Global,
         graph: &Graph<S, G, B>,
         node: u32,
         port: u32,
@@ -64,7 +67,7 @@ impl<B: Naming> Caller<B> {
         ensures made { IfOk result (λ a. IsDone self.old.chair (E.Put (number_of self.old.chair.party) node port tag val.now a) self.new.chair) }
         ensures stopped { IfErr result (λ s. IsHalted self.old.chair (λ e. (a : PutAnswer) × (e ≡ E.Put (number_of self.old.chair.party) node port tag val.now a)) self.new.chair s) }
     {
-        match graph.book.put(alloc, rt, &mut self.chair, node, port, tag, val, graph.gate) {
+        match graph.book.put(rt, alloc, &mut self.chair, node, port, tag, val, graph.gate) {
             Ok(answer) => {
                 graph.inject(rt, &mut self.worker.post, node);
                 Ok(answer)
@@ -76,10 +79,9 @@ impl<B: Naming> Caller<B> {
         }
     }
 
-    /// Starts an input node.
+    /// Starts an input node; one that is started stays as it is. It costs and is refused as a put without its value.
     pub fn activate<R: Wait, S: Bodies, G: Gate>(
         &mut self,
-        alloc: Global,
         rt: &R,
         graph: &Graph<S, G, B>,
         node: u32,
@@ -95,10 +97,7 @@ impl<B: Naming> Caller<B> {
         ensures made { OnOk result (IsDone self.old.chair (E.Act (number_of self.old.chair.party) node) self.new.chair) }
         ensures stopped { IfErr result (λ s. IsHalted self.old.chair (Was (E.Act (number_of self.old.chair.party) node)) self.new.chair s) }
     {
-        match graph
-            .book
-            .activate(alloc, rt, &mut self.chair, node, graph.gate)
-        {
+        match graph.book.activate(rt, &mut self.chair, node, graph.gate) {
             Ok(()) => {
                 graph.inject(rt, &mut self.worker.post, node);
                 Ok(())
@@ -110,7 +109,9 @@ impl<B: Naming> Caller<B> {
         }
     }
 
-    /// Leaves.
+    /// Leaves, and puts and starts nothing from then on. The caller that leaves last calls on the workers, which end
+    /// once nothing is open. It waits for no node's lock, costs the same however large the graph is, and is refused as
+    /// a put is.
     pub fn leave<R: Wait, S: Bodies, G: Gate>(
         &mut self,
         rt: &R,
@@ -192,8 +193,8 @@ impl<B: Naming> Caller<B> {
     // One round of the wait.
     fn round<R: Wait, S: Bodies, G: Gate>(
         &mut self,
-        alloc: Global,
         rt: &R,
+        alloc: Global,
         graph: &Graph<S, G, B>,
     ) -> Option<Waited>
         requires of { IsCaller (S.meanings graph.now.bench.bodies.now) graph.now.book.run graph.now.book.items graph.now.book.events self.old.chair }
@@ -208,7 +209,7 @@ impl<B: Naming> Caller<B> {
         ensures idle { IfNone result (self.new.worker.busy ≡ false) }
         ensures ended { IfSome result (λ w. IsWaited graph.now.book.run self.old.chair w self.new.chair) }
     {
-        match self.worker.turn(alloc, rt, graph) {
+        match self.worker.turn(rt, alloc, graph) {
             Turn::Served => None,
             Turn::Refused => {
                 graph.bell.go();
@@ -220,18 +221,21 @@ impl<B: Naming> Caller<B> {
                     Some(waited)
                 }
                 None => {
-                    graph.bell.sleep(rt, true, last);
+                    self.worker.sleep(rt, graph, last);
                     None
                 }
             },
         }
     }
 
-    /// Works until nothing is open, or a call is refused.
+    /// Works under its worker's chair until nothing is open, or a call is refused. Answers `Quiet` where it saw the
+    /// whole journal in this call and nothing was open then, which other callers may have changed since, and else the
+    /// first refusal of all calls. It sleeps while it finds no node. To ask what is open it takes the locks of all
+    /// nodes: once, and then whenever it is called on. A caller whose worker couldn't end a body is halted at once.
     pub fn wait_for_all<R: Wait, S: Bodies, G: Gate>(
         &mut self,
-        alloc: Global,
         rt: &R,
+        alloc: Global,
         graph: &Graph<S, G, B>,
     ) -> Waited
         requires of { IsCaller (S.meanings graph.now.bench.bodies.now) graph.now.book.run graph.now.book.items graph.now.book.events self.old.chair }
@@ -249,7 +253,7 @@ impl<B: Naming> Caller<B> {
         }
         self.worker.come(graph);
         for _ in rt.forever() {
-            if let Some(waited) = self.round(alloc, rt, graph) {
+            if let Some(waited) = self.round(rt, alloc, graph) {
                 return waited;
             }
         }
