@@ -376,6 +376,9 @@ pub fn run_all_with_nodes<R: Threads + Wait + Sync, S: Bodies, G: Gate>(
     ensures fates { AtEachStart (ItemsHaveOneFate doc.now.shape) kept.new.journal }
     ensures lineages { AtEachStart (ItemsHaveLineages doc.now.shape) kept.new.journal }
     ensures reservations { HoldsReserve doc.now.shape kept.new.journal }
+    ensures closed { OnOk result.0 (open_after doc.now.shape kept.new.journal ≡ 0) }
+    ensures at_rest { open_after doc.now.shape kept.new.journal ≡ 0
+        → IsSettled doc.now.shape kept.new.journal × NothingIsHeld doc.now.shape kept.new.journal × ParentsWereBorn doc.now.shape kept.new.journal }
     ensures settled { OnOk result.0 (IsSettled doc.now.shape kept.new.journal) }
     ensures released { OnOk result.0 (NothingIsHeld doc.now.shape kept.new.journal) }
     ensures parents { OnOk result.0 (ParentsWereBorn doc.now.shape kept.new.journal) }

@@ -75,7 +75,7 @@ pub returns-clause-complete : goal.returns-clause-complete
 returns-clause-complete g c = where_ok c.run_kept.result.0 c.run_kept.ensures.run.whole
 
 pub returns-clause-closed : goal.returns-clause-closed
-returns-clause-closed g c = where_ok c.run_kept.result c.run_kept.ensures.run.closed
+returns-clause-closed g c = where_ok c.run_kept.result.0 c.run_kept.ensures.run.closed
 
 pub returns-clause-at_rest : goal.returns-clause-at_rest
 returns-clause-at_rest g c = λ none.
