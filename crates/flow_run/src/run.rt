@@ -1,5 +1,5 @@
 //! A whole run of a document on threads.
-ghost use Rattle.std.specs.Prelude.{◌≡◌, ◌+◌, ◌<◌, ◌≤◌, ◌^◌, ◌++◌, [], true, None, is_ok, is_some, length, map, All, OnOk, IfOk, IfSome};
+ghost use Rattle.std.specs.Prelude.{◌≡◌, ◌+◌, ◌<◌, ◌≤◌, ◌^◌, ◌++◌, [], true, None, Some, is_ok, is_some, length, map, All, OnOk, IfOk, IfSome};
 ghost use Rattle.std.specs.List.{list_all, count_by};
 ghost use denote.Param.Send.{IsSync, IsSend};
 ghost use Rattle.flow_item.specs.Events.{births};
@@ -159,6 +159,13 @@ fn run_parts<B: Naming + Send + Sync, R: Threads + Wait + Sync, S: Bodies, G: Ga
     join_parts(&site, callers, workers);
 }
 
+// Whether a worker's look found that its work is done.
+fn is_quiet(ended: &Option<Waited>) -> bool
+    ensures { result ≡ true → ended.now ≡ Some Waited.Quiet }
+{
+    matches!(ended, Some(Waited::Quiet))
+}
+
 // Whether all have left and nothing is open, and nothing was refused. The last worker looks.
 fn is_done<B: Naming, R: Wait, S: Bodies, G: Gate>(
     rt: &R,
@@ -175,7 +182,7 @@ fn is_done<B: Naming, R: Wait, S: Bodies, G: Gate>(
         Some(mut worker) => {
             let ended = worker.ended(rt, graph);
             workers.push_reserved(worker);
-            matches!(ended, Some(Waited::Quiet))
+            is_quiet(&ended)
         }
         None => unreachable!(),
     }
