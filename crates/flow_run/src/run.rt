@@ -166,7 +166,8 @@ fn is_quiet(ended: &Option<Waited>) -> bool
     matches!(ended, Some(Waited::Quiet))
 }
 
-// Whether all have left and nothing is open, and nothing was refused. The last worker looks.
+// Whether all have left and nothing is open, and nothing was refused. A worker looks once more, when nobody else is at work
+// any more: what each answered in its thread can't be brought back without memory.
 fn is_done<B: Naming, R: Wait, S: Bodies, G: Gate>(
     rt: &R,
     graph: &Graph<S, G, B>,
@@ -344,6 +345,9 @@ pub fn run_all<R: Threads + Wait + Sync, S: Bodies, G: Gate>(
     ensures fates { AtEachStart (ItemsHaveOneFate doc.now.shape) kept.new.journal }
     ensures lineages { AtEachStart (ItemsHaveLineages doc.now.shape) kept.new.journal }
     ensures reservations { HoldsReserve doc.now.shape kept.new.journal }
+    ensures closed { OnOk result (open_after doc.now.shape kept.new.journal ≡ 0) }
+    ensures at_rest { open_after doc.now.shape kept.new.journal ≡ 0
+        → IsSettled doc.now.shape kept.new.journal × NothingIsHeld doc.now.shape kept.new.journal × ParentsWereBorn doc.now.shape kept.new.journal }
     ensures settled { OnOk result (IsSettled doc.now.shape kept.new.journal) }
     ensures released { OnOk result (NothingIsHeld doc.now.shape kept.new.journal) }
     ensures parents { OnOk result (ParentsWereBorn doc.now.shape kept.new.journal) }
