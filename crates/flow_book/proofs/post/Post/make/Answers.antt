@@ -11,7 +11,7 @@ change_one-requires g c =
     let step = subst (λ (s : Posted). allows_at s.node.place s.node.state c.args.event ≡ true) (sym c.self.view_is) c.requires.step in (
       c.args.event,
       changes-one c.self.inside.chair c.prepare.new.self c.self.inside.node.node c.of-change.result c.args.event c.self.invariant.1 c.prepare.ensures.same c.of-change.ensures
-      c.requires.link (takes-alone (parties_of c.args.event) c.self.inside.chair.party alone) step c.in-Ok.ensures.ok,
+          c.requires.link (takes-alone (parties_of c.args.event) c.self.inside.chair.party alone) step c.in-Ok.ensures.ok,
     )
 
 pub invariant_of-self-2 : goal.invariant_of-self-2

@@ -11,9 +11,11 @@ change_across-requires g c =
     let pair = subst (λ (s : Posted). IsPair (parties_of c.args.event) s.chair.party c.other.inside.chair.party) (sym c.self.view_is)
     (subst (λ (s : Posted). IsPair (parties_of c.args.event) c.args.self.now.chair.party s.chair.party) (sym c.other.view_is) c.requires.pair) in
     let step = subst (λ (s : Posted). allows_at s.node.place s.node.state c.args.event ≡ true) (sym c.self.view_is) c.requires.step in
-    let other_step = subst (λ (s : Posted). allows_at s.node.place s.node.state c.args.event ≡ true) (sym c.other.view_is) c.requires.other_step in
-    (c.args.event, changes-across c.self.inside.chair c.other.inside.chair c.prepare.new.self c.prepare-2.new.self c.self.inside.node.node c.other.inside.node.node c.self.inside.number c.leads-from.result c.of-change.result c.args.event
-    c.self.invariant.1 c.other.invariant.1 c.self.invariant.0 c.prepare.ensures.same c.prepare-2.ensures.same c.leads-from.ensures pair c.of-change.ensures step other_step c.in-Ok.ensures.ok c.in-Ok-prepare.ensures.ok)
+    let other_step = subst (λ (s : Posted). allows_at s.node.place s.node.state c.args.event ≡ true) (sym c.other.view_is) c.requires.other_step in (
+      c.args.event,
+      changes-across c.self.inside.chair c.other.inside.chair c.prepare.new.self c.prepare-2.new.self c.self.inside.node.node c.other.inside.node.node c.self.inside.number c.leads-from.result c.of-change.result c.args.event
+          c.self.invariant.1 c.other.invariant.1 c.self.invariant.0 c.prepare.ensures.same c.prepare-2.ensures.same c.leads-from.ensures pair c.of-change.ensures step other_step c.in-Ok.ensures.ok c.in-Ok-prepare.ensures.ok,
+    )
 
 pub invariant_of-self-2 : goal.invariant_of-self-2
 invariant_of-self-2 g c =
