@@ -25,8 +25,9 @@ from measure import FLOW, timed
 LAST = re.compile(rb"events (\d+) items (\d+) refused 0 status 0\n\Z")
 
 # an item that goes round
-RING = (b'{"version":1,"nodes":[{"name":"a","kind":"queue"},{"name":"b","kind":"function","limit":1,"body":"add","arg":1}],'
-        b'"edges":[{"from":"a","to":"b"},{"from":"b","to":"a"}],"callers":[[{"put":"a","val":0}]]}\n')
+RING = (b'{"version":1,"nodes":[{"name":"a","kind":"queue"},{"name":"b","kind":"function","policy":"queueing",'
+        b'"limit":1,"body":"add","arg":1}],'
+        b'"edges":[{"from":"a","to":"b"},{"from":"b","to":"a"}],"callers":[[{"put":"a","val":0}]],"sinks":[]}\n')
 
 
 def sinks_of(n):
