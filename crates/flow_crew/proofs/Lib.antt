@@ -6,6 +6,10 @@ pub mod Owned
 pub mod Quiet
 pub mod Ready
 pub mod Seen
+pub mod Sent
+pub mod SentBook
+pub mod SentGraph
+pub mod SentNodes
 pub mod Shelved
 pub mod Stays
 pub mod Wished
