@@ -12,8 +12,8 @@ use Rattle.flow_book.specs.Callers.{takes_puts}
 abbrev pub one_node : Kind → List ℕ → List (List Step) → Doc
 one_node k name scripts = record { version = 1; names = name ∷ []; shape = record { nodes = k ∷ []; edges = [] }; scripts = scripts; sinks = [] }
 
--- whether there is code for the node, its body is a built-in one, and callers may put to it
-abbrev pub is_tried : Kind → Bool
-is_tried k =
-    let doc = one_node k [] [] in
+-- whether the built-in bodies can run the document, there is code for its node, and callers may put to it
+abbrev pub is_tried : Kind → List (List Step) → Bool
+is_tried k scripts =
+    let doc = one_node k [] scripts in
     (doc_fits 10 doc && list_all is_built doc.shape.nodes) && takes_puts doc.shape 0 0

@@ -1,5 +1,5 @@
 //! A caller and a worker of a graph of one node, one after the other.
-ghost use Rattle.std.specs.Prelude.{◌≡◌, ◌<◌, ◌≤◌, ◌^◌, [], true, length};
+ghost use Rattle.std.specs.Prelude.{◌≡◌, ◌<◌, ◌≤◌, ◌^◌, [], ◌∷◌, true, length};
 ghost use Rattle.flow_doc.specs.Fits.{doc_fits};
 ghost use Rattle.flow_node.specs.Built.{is_built};
 ghost use Rattle.std.specs.List.{list_all};
@@ -8,7 +8,9 @@ ghost use Rattle.flow_book.specs.Callers.{may_call, takes_puts};
 ghost use Rattle.flow_crew.specs.Crew.{IsCaller, IsWorker};
 ghost use Rattle.flow_crew.specs.Tried.{is_tried};
 
-use crate::trials::{Pair, alone, close, event_letter, leave, opened_pair, put, wait, work};
+use crate::trials::{
+    Pair, alone, close, event_letter, leave, one_script, opened_pair, put, wait, work,
+};
 use crate::{Bodies, Builtin, Caller, Gate, Graph, NoGate, Waited};
 use flow_book::GraphMachine;
 use flow_doc::Doc;
@@ -205,10 +207,10 @@ fn tried<R: Wait + Abort>(
     items: u64,
     events: u64,
 ) -> Result<Ran, Fail>
-    requires kind { is_tried kind ≡ true }
+    requires kind { is_tried kind ([] ∷ []) ≡ true }
     requires limits { (items < 2 ^ 62) × (events < 2 ^ 62) }
 {
-    let doc = alone(alloc, kind, 1)?;
+    let doc = alone(alloc, kind, one_script(alloc)?)?;
     let opened = Opened::<GraphMachine>::new(alloc).ok().ok_or("a line")?;
     Ok(tried_named::<Brand, R>(rt, alloc, &doc, plan, items, events, opened))
 }

@@ -7,7 +7,7 @@ ghost use Rattle.flow_pool.specs.Posts.{IsPostOf};
 ghost use Rattle.flow_book.specs.Callers.{may_call, takes_puts};
 ghost use Rattle.flow_crew.specs.Crew.{IsCaller, IsWorker};
 
-use crate::trials::{alone, event_letter, leave, opened_parts, put, wait, work};
+use crate::trials::{alone, event_letter, four_scripts, leave, opened_parts, put, wait, work};
 use crate::{Bodies, Builtin, Caller, Gate, Graph, NoGate, Parts, Waited, Worker};
 use flow_book::GraphMachine;
 use flow_doc::Doc;
@@ -244,7 +244,7 @@ fn all_ends<R: Threads + Wait + Abort + Sync>(
         body: 0,
         arg: Val::Int(1),
     };
-    let doc = alone(alloc, function, 4)?;
+    let doc = alone(alloc, function, four_scripts(alloc)?)?;
     let opened = Opened::<GraphMachine>::new(alloc).ok().ok_or("a line")?;
     let (journal, kept) = ran_named::<Brand, R>(rt, alloc, &doc, waits, opened);
     assert!(rt; is_whole(journal.as_slice()) && kept.is_none());

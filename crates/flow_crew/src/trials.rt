@@ -1,5 +1,5 @@
 //! Graphs that are tried: their documents, a caller, a worker, and what they do.
-ghost use Rattle.std.specs.Prelude.{◌≡◌, ◌+◌, ◌<◌, ◌≤◌, ◌^◌, [], true, length, All, IfOk};
+ghost use Rattle.std.specs.Prelude.{◌≡◌, ◌+◌, ◌<◌, ◌≤◌, ◌^◌, [], ◌∷◌, true, length, All, IfOk};
 ghost use Rattle.std.specs.List.{list_all};
 ghost use Rattle.flow_doc.specs.Fits.{doc_fits};
 ghost use Rattle.flow_node.specs.Built.{is_built};
@@ -19,27 +19,35 @@ use std::process::Abort;
 use std::sync::Wait;
 use std::test::Fail;
 
-/// A script of no steps for each of so many callers.
-fn no_steps(alloc: Global, callers: u32) -> Result<Scripts, Fail>
-    ensures { IfOk result (λ scripts. (length scripts ≡ callers) × All (λ steps. steps ≡ []) scripts) }
+/// A script of no steps, for one caller.
+pub(crate) fn one_script(alloc: Global) -> Result<Scripts, Fail>
+    ensures { IfOk result (λ scripts. scripts ≡ [] ∷ []) }
 {
     let mut scripts = Vec::new(alloc);
-    for _ in 0..callers {
-        scripts.push(Items::new(alloc))?;
-    }
+    scripts.push(Items::new(alloc))?;
     Ok(Scripts::from_vec(scripts))
 }
 
-/// A document of this node alone, and of so many callers.
-pub(crate) fn alone(alloc: Global, kind: Kind, callers: u32) -> Result<Doc, Fail>
-    requires kind { is_tried kind ≡ true }
-    requires few { callers ≤ 64 }
+/// A script of no steps for each of four callers.
+pub(crate) fn four_scripts(alloc: Global) -> Result<Scripts, Fail>
+    ensures { IfOk result (λ scripts. scripts ≡ [] ∷ [] ∷ [] ∷ [] ∷ []) }
+{
+    let mut scripts = Vec::new(alloc);
+    scripts.push(Items::new(alloc))?;
+    scripts.push(Items::new(alloc))?;
+    scripts.push(Items::new(alloc))?;
+    scripts.push(Items::new(alloc))?;
+    Ok(Scripts::from_vec(scripts))
+}
+
+/// A document of this node alone and these scripts.
+pub(crate) fn alone(alloc: Global, kind: Kind, scripts: Scripts) -> Result<Doc, Fail>
+    requires { is_tried kind scripts ≡ true }
     ensures fits { IfOk result (λ doc. doc_fits 10 doc ≡ true) }
     ensures built { IfOk result (λ doc. list_all is_built doc.shape.nodes ≡ true) }
     ensures puts { IfOk result (λ doc. takes_puts doc.shape 0 0 ≡ true) }
-    ensures callers { IfOk result (λ doc. length doc.scripts ≡ callers) }
+    ensures scripts { IfOk result (λ doc. doc.scripts ≡ scripts) }
 {
-    let scripts = no_steps(alloc, callers)?;
     let mut names = Vec::new(alloc);
     names.push(Text::from_string(String::new(alloc)))?;
     let mut nodes = Vec::new(alloc);
