@@ -1,5 +1,6 @@
-//! Runs message graphs: `flow plain < DOCUMENT` prints the report of the document's run on one thread, and `flow gen N` the
-//! summary of the run of a document of N numbers.
+//! Runs message graphs: `flow plain < DOCUMENT` prints the report of the document's run on one thread, `flow run < DOCUMENT`
+//! that of its run on several. `flow check < DOCUMENT` prints what every run of the document comes to, or why that isn't
+//! settled, and `flow gen N` the summary of the run of a document of N numbers.
 #![tactic(auto)]
 
 use flow_body::{

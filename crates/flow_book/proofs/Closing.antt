@@ -1,8 +1,8 @@
 -- What the journal of a closed book is.
-use Rattle.std.proofs.Common.{◌≡◌, ℕ, ◌+◌, ◌<◌, ◌≤◌, Bool, true, false, ◌&&◌, if◌then◌else◌, Option, Some, None, List, [], ◌∷◌, ◌++◌, length, refl, sym, ap, ◌∙◌, subst, arith, All}
+use Rattle.std.proofs.Common.{◌≡◌, ℕ, ◌+◌, ◌<◌, ◌≤◌, Bool, true, false, ◌&&◌, if◌then◌else◌, Option, Some, None, List, [], ◌∷◌, ◌++◌, length, refl, sym, ap, ◌∙◌, subst, arith, append_assoc, All}
 use Rattle.std.specs.List.{sum_by, count_by, list_all}
 use Rattle.std.specs.Option.{is_some}
-use Rattle.std.proofs.lemmas.List.Elements.{All-head}
+use Rattle.std.proofs.lemmas.List.Elements.{All-nil, All-cons, All-head, All-tail}
 use Rattle.flow_item.specs.declared.event.Event.{Event}
 use Rattle.flow_item.specs.Events.{parties_of, births_of, births}
 use Rattle.flow_item.specs.Legal as legal
@@ -130,6 +130,30 @@ closed run items events es log left (c ∷ seats) valid of_log same w of some =
     (whole.machine-run run log (subst (λ (x : About Run). legal.is_legal parties_of (run_allows x.setup) log ≡ true) is w.legal))
     (subst (λ (o : Option (About Run)). All (IsPart parties_of o log) (c ∷ seats)) told parts)
     (within w.about log items events (ap (λ (x : About Run). x.items) is) (ap (λ (x : About Run). x.events) is) w.births w.short))
+
+-- what each of two lists has, if both together have it
+pub all-parts : {X : Type 0} (P : X → Type 0) (xs ys : List X) → All P (xs ++ ys) → All P xs × All P ys
+all-parts P [] ys h = (All-nil P, h)
+all-parts P (x ∷ xs) ys h =
+    let rest = all-parts P xs ys (All-tail P x (xs ++ ys) h) in
+    (All-cons P x xs (All-head P x (xs ++ ys) h) rest.0, rest.1)
+
+-- further chairs were put behind those of the seats
+pub closed-beside : (run : Run) (items events : ℕ) (es log : List Event) (callers workers after beside seats : List (Sitting Event Run)) → IsValid run.shape → es ≡ log → after ≡ workers ++ beside → callers ++ workers ≡ without_first_kept seats
+    → IsWhole parties_of births_of run_allows log (callers ++ after) → All (λ (c : Sitting Event Run). c.about ≡ a.about_of run items events) seats → 0 < length seats
+    → IsClosed run items events es seats × All (IsPart parties_of (a.about_of run items events) es) beside
+closed-beside run items events es log callers workers after beside [] valid of_log behind same w of some = absurd (omega (arith, some))
+closed-beside run items events es log callers workers after beside (c ∷ seats) valid of_log behind same w of some =
+    let about : About Run = record { setup = run; items = items; events = events } in
+    let P : Sitting Event Run → Type 0 = IsPart parties_of (Some w.about) log in
+    let order : callers ++ after ≡ (callers ++ workers) ++ beside = ap (λ l. callers ++ l) behind ∙ sym (append_assoc callers workers beside) in
+    let two = all-parts P (callers ++ workers) beside (subst (λ l. All P l) order w.parts) in
+    let first = All-head P c seats (parts_before parties_of (Some w.about) log (c ∷ seats) (subst (λ l. All P l) same two.0)) in
+    let told : Some w.about ≡ Some about = sym first.about_is ∙ All-head (λ (c : Sitting Event Run). c.about ≡ a.about_of run items events) c seats of in
+    let whole : IsWhole parties_of births_of run_allows log (callers ++ workers) = record { about = w.about; legal = w.legal; births = w.births; short = w.short; parts = two.0 } in (
+      closed run items events es log (callers ++ workers) (c ∷ seats) valid of_log same whole of some,
+      subst (λ (o : Option (About Run)). All (IsPart parties_of o es) beside) told (subst (λ (es : List Event). All (IsPart parties_of (Some w.about) es) beside) (sym of_log) two.1),
+    )
 
 -- ---- who has left
 

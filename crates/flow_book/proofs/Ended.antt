@@ -65,7 +65,6 @@ use Rattle.flow_machine.specs.declared.Wish.TheVariants as W
 use Rattle.flow_machine.specs.Wishes.{WishIs}
 use Rattle.flow_machine.proofs.Frames.{Fits}
 use Rattle.flow_laws.proofs.Births.{fits-along}
-use Rattle.flow_progress.proofs.Once.{Once, once}
 
 node-takes : (n : ℕ) (p : Party) → (Rattle.flow_item.specs.Events.same_party (Node n) (Node n) || Rattle.flow_item.specs.Events.same_party p (Node n)) ≡ true
 node-takes n p = ap (λ b. b || Rattle.flow_item.specs.Events.same_party p (Node n)) (eq-eqb n n refl)
@@ -257,8 +256,7 @@ job-known c w v about n k i r p pw at valid ab seen l own wown idle q =
     let legal = and_left (is_legal shape c.seen) (list_all (is_of_run shape about.setup.callers about.setup.workers) c.seen) (legal-run about c.seen told) in
     let state : v.state ≡ state_of shape n st.0 c.seen = ap (λ (u : PlacedNode). u.state) st.2 in
     let fits : Fits st.0 v.state.part = subst (λ (s : NodeState). Fits st.0 s.part) (sym state) (fits-along shape n st.0 st.1 c.seen legal) in
-    let one : Once v.state.made v.state.part = subst (λ (s : NodeState). Once s.made s.part) (sym state) (once shape n st.0 st.1 c.seen legal) in
-    (st.0, st.1, starts st.0 v.state.part v.state.made n i fits may one, may, small about c.seen n st.0 v.state state told, state)
+    (st.0, st.1, starts st.0 v.state.part n i fits may, may, small about c.seen n st.0 v.state state told, state)
 
 -- the tickets of a node are few
 pub tickets-few : (c : Sitting Event Run) (v : PlacedNode) (about : About Run) (n : ℕ) → replayed c ≡ Some v → c.party ≡ Node n → c.about ≡ Some about

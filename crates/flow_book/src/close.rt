@@ -1,17 +1,26 @@
 //! The end of a run.
-ghost use Rattle.std.specs.Prelude.{◌≡◌, ◌<◌, ◌++◌, true, length, All};
+ghost use Rattle.std.specs.Prelude.{◌≡◌, ◌<◌, ◌++◌, true, length, map, vec_len, All, IfOk, IfSome};
 ghost use Rattle.flow_item.specs.Events.{parties_of};
 ghost use Rattle.flow_machine.specs.Machine.{is_run};
 ghost use Rattle.flow_laws.specs.Moments.{IsWithinLimits, AtEachStart, EdgesAgree, HoldsAgree, NodesWithinLimits, LedgerAddsUp};
 ghost use Rattle.flow_line.specs.Values.{IsPart};
 ghost use Rattle.flow_line.specs.Kept.{first_kept, without_first_kept};
+ghost use Rattle.flow_node.specs.Readied.{is_waiting};
+ghost use Rattle.flow_nodes.specs.Rows.{nodes_of};
+ghost use Rattle.flow_nodes.specs.Stepping.{node_of};
 ghost use Rattle.flow_book.specs.Answers.{about_of};
+ghost use Rattle.flow_book.specs.Handed.{AreTaken};
 
 use crate::book::Book;
 use crate::machine::GraphMachine;
+use crate::post::Post;
 use crate::seats::Seats;
-use flow_item::{Event, Journal};
+use flow_item::{Event, Journal, NoMemory};
 use flow_line::{Chairs, Naming};
+use flow_node::NodeState;
+use flow_nodes::{DueSet, Nodes};
+use std::alloc::Global;
+use std::sync::Mutex;
 
 // Takes out the event of the first chair that keeps one, callers before workers.
 fn take_first_kept<B: Naming>(
@@ -24,6 +33,46 @@ fn take_first_kept<B: Naming>(
     match callers.take_first_kept() {
         Some(event) => Some(event),
         None => workers.take_first_kept(),
+    }
+}
+
+// Which nodes wait.
+fn waiting(alloc: Global, nodes: &[NodeState]) -> Result<DueSet, NoMemory>
+    ensures { IfOk result (λ due. due ≡ map is_waiting (map node_of nodes.now)) }
+{
+    let mut due = DueSet::new(alloc, nodes.len())?;
+    for at in 0..nodes.len() {
+        due.set(at, nodes[at].is_waiting());
+    }
+    Ok(due)
+}
+
+// The nodes from behind their locks, where there is memory for them. Their chairs go behind those of the workers.
+fn take_nodes<B: Naming>(
+    alloc: Global,
+    mut posts: Vec<Mutex<Post<B>>>,
+    workers: &mut Chairs<GraphMachine, B>,
+) -> Option<Nodes>
+    ensures { AreTaken (vec_len posts) workers.old.items workers.new.items result }
+{
+    let mut nodes = Vec::new(alloc);
+    // The last post is that of node 0.
+    while let Some(post) = posts.pop() {
+        let post = post.into_inner();
+        if post.number() as usize != nodes.len() {
+            return None;
+        }
+        let (node, chair) = post.into_parts();
+        let Ok(()) = nodes.push(node) else {
+            return None;
+        };
+        let Ok(()) = workers.push(chair) else {
+            return None;
+        };
+    }
+    match waiting(alloc, &nodes) {
+        Ok(due) => Some(Nodes::from_parts(nodes, due)),
+        Err(_) => None,
     }
 }
 
@@ -50,5 +99,34 @@ impl<B: Naming> Book<B> {
         let kept = take_first_kept(&mut callers, &mut workers);
         let journal = line.close2(callers, workers);
         (Journal::of(journal), kept)
+    }
+    /// As `close`, and hands on the nodes after the journal, without a replay of it. Only for want of memory there are
+    /// none.
+    pub fn close_with_nodes(
+        self,
+        alloc: Global,
+        seats: Seats<B>,
+    ) -> (Journal, Option<Event>, Option<Nodes>)
+        requires of { All (λ c. c.about ≡ about_of self.run self.items self.events) (seats.callers.items ++ seats.workers.items) }
+        requires some { 0 < length (seats.callers.items ++ seats.workers.items) }
+        ensures run { is_run self.run.shape self.run.callers self.run.workers result.0 ≡ true }
+        ensures parts { All (IsPart parties_of (about_of self.run self.items self.events) result.0) (seats.callers.items ++ seats.workers.items) }
+        ensures kept { result.1 ≡ first_kept (seats.callers.items ++ seats.workers.items) }
+        ensures limits { IsWithinLimits self.items self.events result.0 }
+        ensures edges { AtEachStart (EdgesAgree self.run.shape) result.0 }
+        ensures holds { AtEachStart (HoldsAgree self.run.shape) result.0 }
+        ensures node_limits { AtEachStart (NodesWithinLimits self.run.shape) result.0 }
+        ensures ledger { AtEachStart (LedgerAddsUp self.run.shape) result.0 }
+        ensures nodes { IfSome result.2 (λ nodes. map node_of nodes ≡ nodes_of self.run.shape result.0) }
+    {
+        let Book { line, posts, .. } = self;
+        let Seats {
+            mut callers,
+            mut workers,
+        } = seats;
+        let kept = take_first_kept(&mut callers, &mut workers);
+        let nodes = take_nodes(alloc, posts, &mut workers);
+        let journal = line.close2(callers, workers);
+        (Journal::of(journal), kept, nodes)
     }
 }

@@ -28,7 +28,6 @@ impl<B: Naming> Post<B> {
     /// Ends the body that the worker runs on an item of the node.
     pub(crate) fn make_end<R: Wait, G: Gate>(
         &mut self,
-        alloc: Global,
         rt: &R,
         line: &Line<GraphMachine, B>,
         w: &mut Chair<GraphMachine, B>,
@@ -60,7 +59,7 @@ impl<B: Naming> Post<B> {
             first,
             outs,
         };
-        match self.make_by(alloc, rt, line, w, event, gate) {
+        match self.make_by(rt, line, w, event, gate) {
             Ok(()) => Ok(()),
             Err(refused) => Err(refused),
         }
@@ -71,7 +70,6 @@ impl<B: Naming> Post<B> {
     /// Brings an open ticket of the node back.
     pub(crate) fn make_back<R: Wait, G: Gate>(
         &mut self,
-        alloc: Global,
         rt: &R,
         line: &Line<GraphMachine, B>,
         w: &mut Chair<GraphMachine, B>,
@@ -104,7 +102,7 @@ impl<B: Naming> Post<B> {
             first,
             outs,
         };
-        match self.make_by(alloc, rt, line, w, event, gate) {
+        match self.make_by(rt, line, w, event, gate) {
             Ok(()) => Ok(()),
             Err(refused) => Err(refused),
         }
@@ -136,11 +134,14 @@ fn is_input(shape: &Shape, n: u32) -> bool
 }
 
 impl<B: Naming> Book<B> {
-    /// Ends a job that the worker runs, with the messages of its body: at an input node the first goes alone. On a refusal the job still runs, and comes back.
+    /// Ends a job that the worker runs, with the messages of its body: at an input node the first goes alone. Waits for
+    /// the node's lock, and with it for the journal's. The journal takes the messages, and each is copied once for the
+    /// node; the first of several at an input is copied once more. It stops as `put` does: then the job still runs, and
+    /// comes back, with its messages unless the chair keeps the event that has them.
     pub fn finish<R: Wait, G: Gate>(
         &self,
-        alloc: Global,
         rt: &R,
+        alloc: Global,
         w: &mut Chair<GraphMachine, B>,
         job: Job,
         outs: Outs,
@@ -155,7 +156,7 @@ impl<B: Naming> Book<B> {
         ensures job { IfErr result (λ u. u.job ≡ job) }
         ensures outs { IfErr result (λ u. u.outs ≡ outs_back w.old.kept u.stop outs) }
     {
-        match self.try_finish(alloc, rt, w, job, outs, gate) {
+        match self.try_finish(rt, alloc, w, job, outs, gate) {
             Ok(()) => Ok(()),
             Err(unfinished) => {
                 self.store(rt, w, unfinished.stop);
@@ -167,8 +168,8 @@ impl<B: Naming> Book<B> {
     // Ends a job. A refusal is not yet stored.
     fn try_finish<R: Wait, G: Gate>(
         &self,
-        alloc: Global,
         rt: &R,
+        alloc: Global,
         w: &mut Chair<GraphMachine, B>,
         job: Job,
         outs: Outs,
@@ -184,17 +185,17 @@ impl<B: Naming> Book<B> {
         ensures outs { IfErr result (λ u. u.outs ≡ outs_back w.old.kept u.stop outs) }
     {
         if is_input(&self.run.shape, job.node) && outs.len() > 1 {
-            self.finish_first(alloc, rt, w, job, outs, gate)
+            self.finish_first(rt, alloc, w, job, outs, gate)
         } else {
-            self.finish_all(alloc, rt, w, job, outs, gate)
+            self.finish_all(rt, alloc, w, job, outs, gate)
         }
     }
 
     // Ends a job of an input node with the first of several messages.
     fn finish_first<R: Wait, G: Gate>(
         &self,
-        alloc: Global,
         rt: &R,
+        alloc: Global,
         w: &mut Chair<GraphMachine, B>,
         job: Job,
         outs: Outs,
@@ -216,7 +217,7 @@ impl<B: Naming> Book<B> {
                 stop: Stop::Memory,
             });
         };
-        match self.end_job(alloc, rt, w, job.node, job.item.id.no, first, gate) {
+        match self.end_job(rt, w, job.node, job.item.id.no, first, gate) {
             Ok(()) => Ok(()),
             Err(Refused { stop, event }) => Err(Unfinished {
                 job,
@@ -229,8 +230,8 @@ impl<B: Naming> Book<B> {
     // Ends a job with all messages.
     fn finish_all<R: Wait, G: Gate>(
         &self,
-        alloc: Global,
         rt: &R,
+        alloc: Global,
         w: &mut Chair<GraphMachine, B>,
         job: Job,
         outs: Outs,
@@ -246,7 +247,7 @@ impl<B: Naming> Book<B> {
         ensures job { IfErr result (λ u. u.job ≡ job) }
         ensures outs { IfErr result (λ u. u.outs ≡ outs_back w.old.kept u.stop outs) }
     {
-        match self.end_job(alloc, rt, w, job.node, job.item.id.no, outs, gate) {
+        match self.end_job(rt, w, job.node, job.item.id.no, outs, gate) {
             Ok(()) => Ok(()),
             Err(Refused { stop, event }) => Err(Unfinished {
                 job,
@@ -259,7 +260,6 @@ impl<B: Naming> Book<B> {
     // Ends the body that the worker runs on the item of the node.
     fn end_job<R: Wait, G: Gate>(
         &self,
-        alloc: Global,
         rt: &R,
         w: &mut Chair<GraphMachine, B>,
         node: u32,
@@ -278,17 +278,22 @@ impl<B: Naming> Book<B> {
         let mut post = self.post(rt, node);
         gate.at(rt, Point::Locked { node });
         post.meet(&self.line, w);
-        match post.make_end(alloc, rt, &self.line, w, item, outs, gate) {
+        match post.make_end(rt, &self.line, w, item, outs, gate) {
             Ok(()) => Ok(()),
             Err(refused) => Err(refused),
         }
     }
 
-    /// Brings an answer from outside back to the node that asked.
+    /// Brings an answer from outside back to the node that asked: the messages are the node's, and the ticket of the ask
+    /// is no longer open. It is a `Stranger` where, in the whole journal as it is at a moment of the call, no open ticket
+    /// of the node is that of the ask, with its item and the node's argument, or there is no such node; then nothing
+    /// changes. Waits for the node's lock, and with it for the journal's. Takes the time of a look at each open ticket
+    /// before its own, and of the copies that `finish` makes. It stops as `put` does, and the messages come back, unless
+    /// the chair keeps the event that has them.
     pub fn back<R: Wait, G: Gate>(
         &self,
-        alloc: Global,
         rt: &R,
+        alloc: Global,
         w: &mut Chair<GraphMachine, B>,
         ask: &Ask,
         outs: Outs,
@@ -304,7 +309,7 @@ impl<B: Naming> Book<B> {
         if self.run.shape.nodes.len() <= ask.node as usize {
             return Ok(Took::Stranger);
         }
-        match self.back_at(alloc, rt, w, ask, outs, gate) {
+        match self.back_at(rt, alloc, w, ask, outs, gate) {
             Ok(took) => Ok(took),
             Err(refused) => {
                 self.store(rt, w, refused.1);
@@ -316,8 +321,8 @@ impl<B: Naming> Book<B> {
     // Brings an answer back to a node of the graph.
     fn back_at<R: Wait, G: Gate>(
         &self,
-        alloc: Global,
         rt: &R,
+        alloc: Global,
         w: &mut Chair<GraphMachine, B>,
         ask: &Ask,
         outs: Outs,
@@ -337,7 +342,7 @@ impl<B: Naming> Book<B> {
         if !self.is_asked(&post, ask) {
             return Ok(Took::Stranger);
         }
-        match post.make_back(alloc, rt, &self.line, w, ask.ticket, outs, gate) {
+        match post.make_back(rt, &self.line, w, ask.ticket, outs, gate) {
             Ok(()) => Ok(Took::Took),
             Err(Refused { stop, event }) => Err((outs_in(alloc, event), stop)),
         }

@@ -19,7 +19,8 @@ pub enum Point {
 
 /// What hears of each point that an operation passes. It may wait there.
 pub trait Gate: Sync {
-    /// The point is passed.
+    /// The point is passed. At `Locked` the operation holds its node locks, and at `Committed` too, where the event has a
+    /// node: so who calls the book from there may wait for itself. The journal's lock is never held.
     fn at<R: Wait>(&self, rt: &R, point: Point);
 }
 

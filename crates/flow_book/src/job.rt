@@ -1,10 +1,7 @@
 //! What a worker runs for a node.
 ghost use Rattle.std.specs.Prelude.{◌≡◌, ◌≢◌, ◌<◌, ◌^◌, [], true, false, is_none, if◌then◌else◌, Some, None, IfOk};
-ghost use Rattle.std.specs.List.{find};
-ghost use Rattle.std.specs.Option.{option_copied};
 ghost use Rattle.flow_shape.specs.Kinds.{is_body};
-ghost use Rattle.flow_machine.specs.Enabled.{is_numbered};
-ghost use Rattle.flow_node.specs.NodeViews.{present_items};
+ghost use Rattle.flow_node.specs.NodeViews.{first_ready};
 ghost use Rattle.flow_book.specs.declared.job.JobBody.TheVariants as J;
 ghost use Rattle.flow_book.specs.Jobs.{body_of, turn_item, has_turns, outs_in};
 
@@ -16,8 +13,11 @@ use std::alloc::Global;
 /// A body that a worker has started: its node, the item that it runs on, and what is to be run.
 #[derive(Debug, Drop)]
 pub struct Job {
+    /// The number of the node.
     pub node: u32,
+    /// A copy of the item.
     pub item: Item,
+    /// The body, or what is to be submitted.
     pub body: JobBody,
 }
 
@@ -30,11 +30,14 @@ pub enum JobBody {
     Submit { arg: Val },
 }
 
-/// A job that couldn't be ended: it still runs. Its messages come with it, unless they stand in the event that the chair keeps.
+/// A job that couldn't be ended, and its messages.
 #[derive(Debug, Drop)]
 pub struct Unfinished {
+    /// The job that still runs.
     pub job: Job,
+    /// All messages with which it was to end, or none where the chair keeps them.
     pub outs: Outs,
+    /// Why it couldn't be ended.
     pub stop: Stop,
 }
 
@@ -85,7 +88,8 @@ fn turn_item(node: u32, turn: u64) -> Item
     }
 }
 
-// The item of this number on which a body of the kind runs: that of a turn, or one that the node has.
+// The item on which the next body of the kind runs: that of a turn of this number, or the first that is ready. Constant
+// time beside the copy.
 pub(crate) fn job_item(
     alloc: Global,
     kind: &Kind,
@@ -94,12 +98,12 @@ pub(crate) fn job_item(
     item: u64,
 ) -> Result<Item, NoMemory>
     requires turn { has_turns kind.now ≡ true → item < 2 ^ 63 }
-    requires there { has_turns kind.now ≡ false → find (is_numbered item) (present_items node.now.node.state.part) ≢ None }
-    ensures { IfOk result (λ i. (if has_turns kind.now then Some (turn_item number item) else find (is_numbered item) (present_items node.now.node.state.part)) ≡ Some i) }
+    requires there { has_turns kind.now ≡ false → first_ready node.now.node.state.part ≢ None }
+    ensures { IfOk result (λ i. (if has_turns kind.now then Some (turn_item number item) else first_ready node.now.node.state.part) ≡ Some i) }
 {
     match kind {
         Kind::Input { .. } | Kind::Continue { .. } => Ok(turn_item(number, item)),
-        _ => match node.item(item) {
+        _ => match node.first_ready() {
             Some(found) => found.copy(alloc),
             None => unreachable!(),
         },

@@ -4,6 +4,7 @@ use Rattle.std.specs.Prelude.{IfSome}
 use Rattle.std.specs.List.{list_all}
 use Rattle.flow_machine.specs.Bodies.{Meanings}
 use Rattle.flow_node.specs.Built.{is_built}
+use Rattle.flow_node.specs.Readied.{Readied}
 use Rattle.flow_doc.specs.declared.Doc.{Doc}
 use Rattle.flow_doc.specs.declared.Kept.{Kept}
 use Rattle.flow_doc.proofs.Fitting.{read_fits}
@@ -11,7 +12,8 @@ use Rattle.flow_print.specs.declared.status.Status.{Status}
 use Rattle.flow_print.specs.declared.status.Status.TheVariants as S
 use Rattle.flow_print.specs.Faults.{words_text, memory_text}
 use Rattle.flow_print.specs.Outputs.{Ending, no_memory}
-use Rattle.flow_print.specs.Replayed.{IsBuilt}
+use Rattle.flow_print.specs.Replayed.{AreStates, IsBuilt}
+use Rattle.flow_work.specs.Plain.{AreNodesAfter}
 use Rattle.flow_work.specs.Promises.{IsFresh}
 use Rattle.flow_cli.specs.declared.input.InputFault.{InputFault}
 use Rattle.flow_cli.specs.declared.input.TheConstants.{OFFERED}
@@ -26,6 +28,10 @@ use Rattle.flow_cli.proofs.PlainLemmas.{answers_input, answers_memory, answers_w
 
 pub built_kept : (doc : Doc) (kept : Kept) → kept.doc ≡ Some doc → list_all is_built doc.shape.nodes ≡ true → IsBuilt kept.doc
 built_kept doc kept is built = rw is built
+
+-- the nodes after the journal of the document that is kept
+pub states_kept : (doc : Doc) (kept : Kept) (o : Option (List Readied)) → kept.doc ≡ Some doc → IfSome o (AreNodesAfter doc.shape kept.journal) → IfSome o (AreStates kept.doc kept.journal)
+states_kept doc kept o is h = rw is h
 
 -- where memory ran out before anything was written
 pub ended_memory : (ending : Ending) (status : Status) (old new : Option (List ℕ)) → IsSaid memory_text S.Memory status old new → IsEnded ending status old new

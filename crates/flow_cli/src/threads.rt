@@ -1,5 +1,5 @@
 // The run of a document on threads, and its report.
-ghost use Rattle.std.specs.Prelude.{◌≡◌, ◌<◌, ◌≤◌, ◌^◌, true, is_some, IfOk, OnOk};
+ghost use Rattle.std.specs.Prelude.{◌≡◌, ◌<◌, ◌≤◌, ◌^◌, true, is_some, IfOk, IfSome, OnOk};
 ghost use Rattle.std.specs.List.{list_all};
 ghost use Rattle.flow_doc.specs.Fits.{doc_fits};
 ghost use Rattle.flow_io.specs.Streams.{Rose};
@@ -7,6 +7,7 @@ ghost use Rattle.flow_item.specs.Events.{births};
 ghost use Rattle.flow_node.specs.Built.{is_built};
 ghost use Rattle.flow_print.specs.Replayed.{AreStates, IsBuilt};
 ghost use Rattle.flow_print.specs.Report.{MayBePrinted};
+ghost use Rattle.flow_work.specs.Plain.{AreNodesAfter};
 ghost use Rattle.flow_work.specs.Promises.{IsFresh, is_limit};
 ghost use Rattle.flow_cli.specs.Steps.{IsEnded, IsWhole, report_ending};
 ghost use Rattle.flow_cli.specs.Threads.{IsThreaded};
@@ -20,12 +21,12 @@ use flow_io::Sink;
 use flow_item::{NoMemory, Stop};
 use flow_nodes::{Nodes, replay};
 use flow_print::Status;
-use flow_run::{Bodies, Gate, run_all};
+use flow_run::{Bodies, Gate, run_all_with_nodes};
 use std::alloc::Global;
 use std::sync::Wait;
 use std::thread::Threads;
 
-// Runs a document on threads, and keeps it with what it came to.
+// Runs a document on threads, and keeps it with what it came to. The nodes are handed on.
 fn run_kept<R: Threads + Wait + Sync, B: Bodies, G: Gate>(
     rt: &R,
     alloc: Global,
@@ -34,7 +35,7 @@ fn run_kept<R: Threads + Wait + Sync, B: Bodies, G: Gate>(
     bodies: &B,
     gate: &G,
     kept: &mut Kept,
-) -> Result<(), Stop>
+) -> (Result<(), Stop>, Option<Nodes>)
     requires workers { (0 < asked.workers) × (asked.workers ≤ 64) }
     requires items { asked.options.items ≤ 2000000 }
     requires fits { doc_fits (B.count bodies.now) doc ≡ true }
@@ -42,12 +43,13 @@ fn run_kept<R: Threads + Wait + Sync, B: Bodies, G: Gate>(
     requires version { doc.version < 3 }
     requires fresh { IsFresh kept.old }
     ensures run { IsThreaded (B.meanings bodies.now) asked doc kept.new }
-    ensures whole { OnOk result (IsWhole doc kept.new) }
+    ensures whole { OnOk result.0 (IsWhole doc kept.new) }
     ensures few { births kept.new.journal ≤ 2 ^ 63 }
-    ensures limit { is_some kept.new.refused ≡ is_limit result }
+    ensures limit { is_some kept.new.refused ≡ is_limit result.0 }
+    ensures nodes { IfSome result.1 (AreNodesAfter doc.shape kept.new.journal) }
 {
     let items = asked.options.items;
-    let ended = run_all(
+    let ran = run_all_with_nodes(
         rt,
         alloc,
         &doc,
@@ -59,7 +61,7 @@ fn run_kept<R: Threads + Wait + Sync, B: Bodies, G: Gate>(
         kept,
     );
     kept.doc = Some(doc);
-    ended
+    ran
 }
 
 // The nodes after the journal that is kept.
@@ -89,6 +91,28 @@ fn print_replayed<K: Sink>(alloc: Global, kept: &Kept, options: Options, sink: &
     }
 }
 
+// Writes the report of what is kept, with the nodes that the run handed on, or where it handed on none, with those after
+// a replay.
+fn print_run<K: Sink>(
+    alloc: Global,
+    kept: &Kept,
+    nodes: Option<Nodes>,
+    options: Options,
+    sink: &mut K,
+) -> Status
+    requires kept { MayBePrinted kept.now.doc kept.now.journal }
+    requires built { IsBuilt kept.now.doc }
+    requires states { IfSome nodes (AreStates kept.now.doc kept.now.journal) }
+    ensures ended { IsEnded (report_ending options kept.now) result (K.written sink.old) (K.written sink.new) }
+    ensures sent { (result ≡ Status.Write → ⊥) → K.is_sent sink.new ≡ true }
+    ensures cause { result ≡ Status.Write → Rose (K.faults sink.old) (K.faults sink.new) (K.is_full sink.new) }
+{
+    match nodes {
+        Some(nodes) => print_arranged(alloc, kept, nodes, options, sink),
+        None => print_replayed(alloc, kept, options, sink),
+    }
+}
+
 /// Runs a document on threads and writes the report.
 pub(crate) fn run_threaded<R: Threads + Wait + Sync, K: Sink, B: Bodies, G: Gate>(
     rt: &R,
@@ -112,9 +136,10 @@ pub(crate) fn run_threaded<R: Threads + Wait + Sync, K: Sink, B: Bodies, G: Gate
     ensures whole { result ≡ Status.Done → IsWhole doc kept.new }
     ensures cause { result ≡ Status.Write → Rose (K.faults sink.old) (K.faults sink.new) (K.is_full sink.new) }
 {
-    match run_kept(rt, alloc, asked, doc, bodies, gate, kept) {
-        Ok(()) => print_replayed(alloc, kept, asked.options, sink),
-        Err(Stop::Limit) => print_replayed(alloc, kept, asked.options, sink),
+    let (ended, nodes) = run_kept(rt, alloc, asked, doc, bodies, gate, kept);
+    match ended {
+        Ok(()) => print_run(alloc, kept, nodes, asked.options, sink),
+        Err(Stop::Limit) => print_run(alloc, kept, nodes, asked.options, sink),
         Err(Stop::Memory) => tell_no_memory(sink),
     }
 }

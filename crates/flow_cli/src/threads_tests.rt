@@ -90,7 +90,7 @@ fn expect<R: Threads + Wait + Abort + Sync>(
 const LINES: [&str; 3] = ["run --workers 1", "run --workers 4", "run --workers 64"];
 
 // A document, its sinks and tallies, and the end of the last line. Each is the same in every order of the threads.
-const RUNS: [(&str, &str, &str); 5] = [
+const RUNS: [(&str, &str, &str); 11] = [
     (
         "{\"version\":1,\"nodes\":[],\"edges\":[],\"callers\":[],\"sinks\":[]}",
         "sinks 0\ntally 0\n",
@@ -115,6 +115,36 @@ const RUNS: [(&str, &str, &str); 5] = [
         "{\"version\":1,\"nodes\":[{\"name\":\"src\",\"kind\":\"queue\"},{\"name\":\"pre\",\"kind\":\"function\",\"policy\":\"queueing\",\"body\":\"add\",\"arg\":1},{\"name\":\"left\",\"kind\":\"function\",\"policy\":\"queueing\",\"body\":\"mul\",\"arg\":3},{\"name\":\"right\",\"kind\":\"function\",\"policy\":\"queueing\",\"body\":\"neg\",\"limit\":1},{\"name\":\"both\",\"kind\":\"join\",\"policy\":\"key\",\"ports\":2},{\"name\":\"out\",\"kind\":\"sequencer\"}],\"edges\":[{\"from\":\"src\",\"to\":\"pre\"},{\"from\":\"pre\",\"to\":\"left\"},{\"from\":\"pre\",\"to\":\"right\"},{\"from\":\"left\",\"to\":\"both\"},{\"from\":\"right\",\"to\":\"both\",\"port\":1},{\"from\":\"both\",\"to\":\"out\"}],\"callers\":[[{\"put\":\"src\",\"val\":7},{\"put\":\"src\",\"tag\":2,\"val\":\"x\"}],[{\"put\":\"src\",\"tag\":1,\"val\":1}]],\"sinks\":[\"out\"]}",
         "sinks 1\nout 3\n0 [24,-8]\n1 [6,-2]\n2 [\"x\",\"x\"]\ntally 6\nsrc in 3 out 3 eaten 0 lost 0 over 0 kept 0\npre in 6 out 3 eaten 3 lost 0 over 0 kept 0\nleft in 6 out 3 eaten 3 lost 0 over 0 kept 0\nright in 6 out 3 eaten 3 lost 0 over 0 kept 0\nboth in 9 out 3 eaten 6 lost 0 over 0 kept 0\nout in 3 out 0 eaten 0 lost 0 over 0 kept 3\n",
         " items 33 refused 0 status 0\n",
+    ),
+    (
+        "{\"version\":1,\"nodes\":[{\"name\":\"a\",\"kind\":\"queue\"},{\"name\":\"b\",\"kind\":\"queue\"}],\"edges\":[{\"from\":\"a\",\"to\":\"b\"}],\"callers\":[[{\"put\":\"a\",\"val\":5}]],\"sinks\":[\"b\"]}",
+        "sinks 1\nb 1\n0 5\ntally 2\na in 1 out 1 eaten 0 lost 0 over 0 kept 0\nb in 1 out 0 eaten 0 lost 0 over 0 kept 1\n",
+        " items 2 refused 0 status 0\n",
+    ),
+    (
+        "{\"version\":1,\"nodes\":[{\"name\":\"j\",\"kind\":\"join\",\"policy\":\"queueing\",\"ports\":2},{\"name\":\"s\",\"kind\":\"queue\"}],\"edges\":[{\"from\":\"j\",\"to\":\"s\"}],\"callers\":[[{\"put\":\"j\",\"tag\":3,\"val\":1},{\"put\":\"j\",\"port\":1,\"tag\":8,\"val\":2}]],\"sinks\":[\"s\"]}",
+        "sinks 1\ns 1\n3 [1,2]\ntally 2\nj in 3 out 1 eaten 2 lost 0 over 0 kept 0\ns in 1 out 0 eaten 0 lost 0 over 0 kept 1\n",
+        " items 4 refused 0 status 0\n",
+    ),
+    (
+        "{\"version\":1,\"nodes\":[{\"name\":\"s\",\"kind\":\"sequencer\"},{\"name\":\"t\",\"kind\":\"queue\"}],\"edges\":[{\"from\":\"s\",\"to\":\"t\"}],\"callers\":[[{\"put\":\"s\",\"tag\":2,\"val\":\"c\"},{\"put\":\"s\",\"val\":\"a\"},{\"put\":\"s\",\"val\":\"x\"},{\"put\":\"s\",\"tag\":1,\"val\":\"b\"}]],\"sinks\":[\"t\"]}",
+        "sinks 1\nt 3\n0 \"a\"\n1 \"b\"\n2 \"c\"\ntally 2\ns in 3 out 3 eaten 0 lost 0 over 0 kept 0\nt in 3 out 0 eaten 0 lost 0 over 0 kept 3\n",
+        " items 6 refused 1 status 0\n",
+    ),
+    (
+        "{\"version\":1,\"nodes\":[{\"name\":\"q\",\"kind\":\"queue\"},{\"name\":\"s\",\"kind\":\"sequencer\"},{\"name\":\"t\",\"kind\":\"queue\"}],\"edges\":[{\"from\":\"q\",\"to\":\"s\"},{\"from\":\"s\",\"to\":\"t\"}],\"callers\":[[{\"put\":\"q\",\"tag\":2,\"val\":\"c\"},{\"put\":\"q\",\"val\":\"a\"},{\"put\":\"q\",\"val\":\"x\"},{\"put\":\"q\",\"tag\":1,\"val\":\"b\"}]],\"sinks\":[\"t\"]}",
+        "sinks 1\nt 3\n0 \"a\"\n1 \"b\"\n2 \"c\"\ntally 3\nq in 4 out 4 eaten 0 lost 0 over 0 kept 0\ns in 4 out 3 eaten 0 lost 1 over 0 kept 0\nt in 3 out 0 eaten 0 lost 0 over 0 kept 3\n",
+        " items 11 refused 0 status 0\n",
+    ),
+    (
+        "{\"version\":1,\"nodes\":[{\"name\":\"p\",\"kind\":\"priority\"}],\"edges\":[],\"callers\":[[{\"put\":\"p\",\"val\":3},{\"put\":\"p\",\"tag\":1,\"val\":\"z\"},{\"put\":\"p\",\"tag\":2,\"val\":3},{\"put\":\"p\",\"tag\":3,\"val\":-9223372036854775808}]],\"sinks\":[\"p\"]}",
+        "sinks 1\np 4\n0 3\n2 3\n3 -9223372036854775808\n1 \"z\"\ntally 1\np in 4 out 0 eaten 0 lost 0 over 0 kept 4\n",
+        " items 4 refused 0 status 0\n",
+    ),
+    (
+        "{\"version\":1,\"nodes\":[{\"name\":\"j\",\"kind\":\"join\",\"policy\":\"key\",\"ports\":2},{\"name\":\"s\",\"kind\":\"queue\"}],\"edges\":[{\"from\":\"j\",\"to\":\"s\"}],\"callers\":[[{\"put\":\"j\",\"tag\":7,\"val\":1},{\"put\":\"j\",\"tag\":7,\"val\":2},{\"put\":\"j\",\"port\":1,\"tag\":7,\"val\":3},{\"put\":\"j\",\"port\":1,\"tag\":7,\"val\":4}]],\"sinks\":[\"s\"]}",
+        "sinks 1\ns 2\n7 [1,3]\n7 [2,4]\ntally 2\nj in 6 out 2 eaten 4 lost 0 over 0 kept 0\ns in 2 out 0 eaten 0 lost 0 over 0 kept 2\n",
+        " items 8 refused 0 status 0\n",
     ),
 ];
 
@@ -166,34 +196,128 @@ fn refused_on_threads(rt: HostRuntime) -> Result<(), Fail> {
 const CYCLE: &str =
     "{\"version\":1,\"nodes\":[{\"name\":\"q\",\"kind\":\"queue\"},{\"name\":\"f\",\"kind\":\"function\",\"policy\":\"queueing\",\"limit\":1,\"body\":\"add\",\"arg\":1}],\"edges\":[{\"from\":\"q\",\"to\":\"f\"},{\"from\":\"f\",\"to\":\"q\"}],\"callers\":[[{\"put\":\"q\",\"val\":0}]],\"sinks\":[\"q\"]}";
 
-// A graph that runs round for ever meets the limit on items, and the event that it refused is kept and printed.
+// Whether the text stands somewhere in the bytes.
+fn has_text(bytes: &[u8], text: &str) -> bool {
+    for at in 0..bytes.len() {
+        if bytes[at..].starts_with(text.as_bytes()) {
+            return true;
+        }
+    }
+    false
+}
+
+// What a run round for ever comes to at a limit of ten items. Whether the function's cast has ended then differs.
+fn expect_limit<R: Threads + Wait + Abort + Sync>(
+    rt: &R,
+    alloc: Global,
+    line: &str,
+) -> Result<(), Fail> {
+    let mut source = source(alloc, CYCLE)?;
+    let mut sink = sink(alloc);
+    let (status, _) = call(rt, alloc, line, &mut source, &mut sink, &NoGate)?;
+    let bytes = sink.bytes.as_slice();
+    assert_eq!(rt; status.code(), 8, "{line}");
+    assert!(rt;
+        bytes.starts_with(
+            b"sinks 1\nq 1\n0 3\ntally 2\nq in 4 out 3 eaten 0 lost 0 over 0 kept 1\nf in 6 out ".as_slice()
+        ),
+        "{line}"
+    );
+    assert!(rt;
+        has_text(bytes, "\nstopped give 0 0 1 0 3 6 kept 0 3\nevents "),
+        "{line}"
+    );
+    assert!(rt;
+        bytes.ends_with(b" items 10 refused 0 status 8\n".as_slice()),
+        "{line}"
+    );
+    Ok(())
+}
+
+// The event that a limit refused is printed.
 #[test]
 fn a_limit_on_threads(rt: HostRuntime) -> Result<(), Fail> {
+    for line in [
+        "run --workers 1 --items 10",
+        "run --workers 4 --items 10",
+        "run --workers 64 --items 10",
+    ]
+    .as_slice()
+    {
+        expect_limit(&rt, rt.alloc(), line)?;
+    }
+    Ok(())
+}
+
+// The event that a limit refused, of what a run keeps.
+#[test]
+fn a_refused_event_on_threads(rt: HostRuntime) -> Result<(), Fail> {
     let alloc = rt.alloc();
     let mut source = source(alloc, CYCLE)?;
     let mut sink = sink(alloc);
-    let (status, kept) = call(
+    let (_, kept) = call(
         &rt,
         alloc,
-        "run --workers 4 --items 10",
+        "run --items 10",
         &mut source,
         &mut sink,
         &NoGate,
     )?;
-    assert_eq!(rt; status.code(), 8);
-    assert!(rt;
-        sink.bytes
-            .as_slice()
-            .starts_with(b"sinks 1\nq 1\n0 3\n".as_slice())
-    );
-    assert!(rt;
-        sink.bytes
-            .as_slice()
-            .ends_with(b" items 10 refused 0 status 8\n".as_slice())
-    );
     let refused = kept.refused.ok_or("no event was refused")?;
     let line = event_line(alloc, &refused).ok().ok_or("no memory")?;
     assert_eq!(rt; line.as_str(), "give 0 0 1 0 3 6 kept 0 3");
+    Ok(())
+}
+
+// A journal is printed where it is asked for, and the put is its first event in every order of the threads.
+#[test]
+fn a_journal_on_threads(rt: HostRuntime) -> Result<(), Fail> {
+    for line in [
+        "run --workers 1 --journal",
+        "run --journal",
+        "run --journal --workers 64",
+    ]
+    .as_slice()
+    {
+        expect(
+            &rt,
+            rt.alloc(),
+            line,
+            RUNS[1].0,
+            0,
+            "sinks 1\nq 1\n0 5\ntally 1\nq in 1 out 0 eaten 0 lost 0 over 0 kept 1\njournal 3\nput 0 0 0 0 accepted 0 kept 5\n",
+            "\nevents 3 items 1 refused 0 status 0\n",
+        )?;
+    }
+    Ok(())
+}
+
+// A source that fails at once: nothing is run or kept.
+#[test]
+fn a_source_that_fails_on_threads(rt: HostRuntime) -> Result<(), Fail> {
+    let alloc = rt.alloc();
+    let mut source = source(alloc, RUNS[1].0)?;
+    source.fail = vec![in alloc; 0u64]?;
+    let mut sink = sink(alloc);
+    let (status, kept) = call(&rt, alloc, "run", &mut source, &mut sink, &NoGate)?;
+    assert_eq!(rt; status.code(), 2);
+    assert_eq!(rt; sink.bytes.as_slice(), b"error 2 read\n".as_slice());
+    assert!(rt; kept.doc.is_none() && kept.journal.len() == 0);
+    Ok(())
+}
+
+// A sink that takes one byte a call and fails at the ninth: eight bytes are written, and what was run is kept.
+#[test]
+fn a_sink_that_fails_on_threads(rt: HostRuntime) -> Result<(), Fail> {
+    let alloc = rt.alloc();
+    let mut source = source(alloc, RUNS[1].0)?;
+    let mut sink = sink(alloc);
+    sink.most = 1;
+    sink.fail = vec![in alloc; 8u64]?;
+    let (status, kept) = call(&rt, alloc, "run", &mut source, &mut sink, &NoGate)?;
+    assert_eq!(rt; status.code(), 3);
+    assert_eq!(rt; sink.bytes.as_slice(), b"sinks 1\n".as_slice());
+    assert_eq!(rt; kept.journal.len(), 3);
     Ok(())
 }
 
@@ -215,11 +339,11 @@ fn a_body_without_memory(rt: HostRuntime) -> Result<(), Fail> {
     Ok(())
 }
 
-// The text of the generated document of 100 numbers.
-fn generated(alloc: Global) -> Result<String, Fail> {
+// The text of the generated document by this line.
+fn generated(alloc: Global, line: &str) -> Result<String, Fail> {
     let mut source = source(alloc, "")?;
     let mut sink = sink(alloc);
-    let (status, _) = plain_call(alloc, "gen 100 --text", &mut source, &mut sink)?;
+    let (status, _) = plain_call(alloc, line, &mut source, &mut sink)?;
     if status.code() != 0 {
         return Err(Fail::from("no text"));
     }
@@ -227,9 +351,9 @@ fn generated(alloc: Global) -> Result<String, Fail> {
 }
 
 // Its sinks, by what it means.
-fn generated_sinks(alloc: Global) -> Result<String, Fail> {
-    let mut text = String::from_str(alloc, "sinks 1\nout 100\n")?;
-    for k in 0..100u64 {
+fn generated_sinks(alloc: Global, count: u64) -> Result<String, Fail> {
+    let mut text = format!(in alloc; "sinks 1\nout {count}\n")?;
+    for k in 0..count {
         let line = format!(in alloc; "{k} [{},-{}]\n", 3 * (k + 1), k + 1)?;
         text.push_str(line.as_str())?;
     }
@@ -239,8 +363,8 @@ fn generated_sinks(alloc: Global) -> Result<String, Fail> {
 #[test]
 fn generated_on_threads(rt: HostRuntime) -> Result<(), Fail> {
     let alloc = rt.alloc();
-    let document = generated(alloc)?;
-    let sinks = generated_sinks(alloc)?;
+    let document = generated(alloc, "gen 100 --text")?;
+    let sinks = generated_sinks(alloc, 100)?;
     for line in LINES.as_slice() {
         expect(
             &rt,
@@ -249,6 +373,74 @@ fn generated_on_threads(rt: HostRuntime) -> Result<(), Fail> {
             document.as_str(),
             0,
             sinks.as_str(),
+            " items 1100 refused 0 status 0\n",
+        )?;
+    }
+    Ok(())
+}
+
+#[test]
+fn many_generated_on_threads(rt: HostRuntime) -> Result<(), Fail> {
+    let alloc = rt.alloc();
+    let document = generated(alloc, "gen 2000 --text")?;
+    let sinks = generated_sinks(alloc, 2000)?;
+    expect(
+        &rt,
+        alloc,
+        "run --workers 64",
+        document.as_str(),
+        0,
+        sinks.as_str(),
+        " items 22000 refused 0 status 0\n",
+    )
+}
+
+// The document of a pipeline whose numbers two callers put, the even ones and the odd ones.
+fn pipeline(alloc: Global) -> Result<String, Fail> {
+    let mut text = String::from_str(alloc, PIPELINE)?;
+    for first in 0..2u64 {
+        text.push_str(if first == 0 { "[" } else { "],[" })?;
+        for k in 0..50u64 {
+            let tag = 2 * k + first;
+            let mark = if k == 0 { "" } else { "," };
+            let step = format!(in alloc; "{mark}{{\"put\":\"src\",\"tag\":{tag},\"val\":{tag}}}")?;
+            text.push_str(step.as_str())?;
+        }
+    }
+    text.push_str("]],\"sinks\":[\"out\"]}")?;
+    Ok(text)
+}
+
+// What its nodes have in the end.
+fn pipeline_report(alloc: Global) -> Result<String, Fail> {
+    let mut text = String::from_str(alloc, "sinks 1\nout 100\n")?;
+    for k in 0..100u64 {
+        let line = format!(in alloc; "{k} [{},-{}]\n", 2 * (k + 1000), k + 1000)?;
+        text.push_str(line.as_str())?;
+    }
+    text.push_str(PIPELINE_TALLY)?;
+    Ok(text)
+}
+
+const PIPELINE: &str =
+    "{\"version\":1,\"nodes\":[{\"name\":\"src\",\"kind\":\"queue\"},{\"name\":\"parse\",\"kind\":\"function\",\"policy\":\"queueing\",\"body\":\"add\",\"arg\":1000},{\"name\":\"left\",\"kind\":\"function\",\"policy\":\"queueing\",\"body\":\"mul\",\"arg\":2},{\"name\":\"right\",\"kind\":\"function\",\"policy\":\"queueing\",\"limit\":1,\"body\":\"neg\"},{\"name\":\"both\",\"kind\":\"join\",\"policy\":\"key\",\"ports\":2},{\"name\":\"out\",\"kind\":\"sequencer\"}],\"edges\":[{\"from\":\"src\",\"to\":\"parse\"},{\"from\":\"parse\",\"to\":\"left\"},{\"from\":\"parse\",\"to\":\"right\"},{\"from\":\"left\",\"to\":\"both\"},{\"from\":\"right\",\"to\":\"both\",\"port\":1},{\"from\":\"both\",\"to\":\"out\"}],\"callers\":[";
+
+const PIPELINE_TALLY: &str =
+    "tally 6\nsrc in 100 out 100 eaten 0 lost 0 over 0 kept 0\nparse in 200 out 100 eaten 100 lost 0 over 0 kept 0\nleft in 200 out 100 eaten 100 lost 0 over 0 kept 0\nright in 200 out 100 eaten 100 lost 0 over 0 kept 0\nboth in 300 out 100 eaten 200 lost 0 over 0 kept 0\nout in 100 out 0 eaten 0 lost 0 over 0 kept 100\n";
+
+#[test]
+fn two_callers_feed_a_pipeline(rt: HostRuntime) -> Result<(), Fail> {
+    let alloc = rt.alloc();
+    let document = pipeline(alloc)?;
+    let report = pipeline_report(alloc)?;
+    for line in LINES.as_slice() {
+        expect(
+            &rt,
+            alloc,
+            line,
+            document.as_str(),
+            0,
+            report.as_str(),
             " items 1100 refused 0 status 0\n",
         )?;
     }

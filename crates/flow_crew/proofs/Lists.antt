@@ -1,7 +1,7 @@
 -- Lists that are taken apart from their end.
 use Rattle.std.proofs.Common.{◌≡◌, ◌+◌, ◌<◌, ◌≢◌, List, [], ◌∷◌, ◌++◌, map, reverse, length, All, refl, sym, ap, ◌∙◌, subst, arith, append_assoc, append-nil, length-append}
 use Rattle.std.proofs.lemmas.List.{map-append, reverse-append, reverse-reverse, length-map}
-use Rattle.std.proofs.lemmas.List.Elements.{All-nil, All-cons, All-head, All-tail, All-append}
+use Rattle.std.proofs.lemmas.List.Elements.{All-nil, All-cons, All-head, All-tail, All-append, All-map}
 
 pub map-reverse : {A B : Type 0} (f : A → B) (xs : List A) → map f (reverse xs) ≡ reverse (map f xs)
 map-reverse f [] = refl
@@ -64,6 +64,24 @@ all-first P Q (x ∷ xs) h = All-cons P x xs (All-head (λ x. P x × Q x) x xs h
 pub all-second : {A : Type 0} (P Q : A → Type 0) (xs : List A) → All (λ x. P x × Q x) xs → All Q xs
 all-second P Q [] h = All-nil Q
 all-second P Q (x ∷ xs) h = All-cons Q x xs (All-head (λ x. P x × Q x) x xs h).1 (all-second P Q xs (All-tail (λ x. P x × Q x) x xs h))
+
+-- ---- the members of two lists put together, those of the first with two parts each
+
+module _ {A W S : Type 0} (f g : A → S) (h : W → S) (cs : List A) (ws : List W) (first second : List S) (of_first : first ≡ map f cs) (of_second : second ≡ map h ws ++ map g cs) where
+  pub all-together : (P : S → Type 0) → All (λ c. P (f c) × P (g c)) cs → All (λ w. P (h w)) ws → All P (first ++ second)
+  all-together P both one =
+      subst (λ (l : List S). All P l) (sym (λ i. of_first i ++ of_second i))
+      (All-append P (map f cs) (map h ws ++ map g cs)
+      (All-map P f cs (all-first (λ c. P (f c)) (λ c. P (g c)) cs both))
+      (All-append P (map h ws) (map g cs) (All-map P h ws one) (All-map P g cs (all-second (λ c. P (f c)) (λ c. P (g c)) cs both))))
+
+  pub some-together : 0 < length ws + length cs → 0 < length (first ++ second)
+  some-together some =
+      let long = length-append first second in
+      let more = ap length of_second ∙ length-append (map h ws) (map g cs) in
+      let works = length-map ws h in
+      let waits = length-map cs g in
+      omega (arith, long, more, works, waits, some)
 
 -- what holds of each is left where the last is put first
 pub all-turned : {A : Type 0} (P : A → Type 0) (xs : List A) → All P xs → All P (reverse xs)

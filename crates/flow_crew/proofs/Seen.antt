@@ -49,7 +49,7 @@ use Rattle.flow_book.proofs.Whole.{legal-run}
 use Rattle.flow_crew.specs.Crew.{HasBegun, IsEnded, IsGiven, IsWaited, IsWork, IsWorker, HasWorked, is_started}
 use Rattle.flow_crew.specs.Bodies.{answers_job}
 use Rattle.flow_crew.proofs.Keeps.{is_function, built-function, answers-kind, end-keeps}
-use Rattle.flow_crew.proofs.Works.{worked-on, worked-kept, worked-done, halted-kept, worker-same, worker-started, worker-ended, worker-halted, runs-started, begun-started}
+use Rattle.flow_crew.proofs.Works.{worked-kept, worked-done, halted-kept, worker-same, worker-started, worker-ended, worker-halted, runs-started, begun-started}
 use Rattle.flow_crew.specs.declared.waited.Waited.{Waited}
 use Rattle.flow_crew.specs.declared.waited.Waited.TheVariants as W
 
@@ -109,14 +109,14 @@ node-within shape n test h = by_kind (slice_get shape.nodes n) refl h
 
 -- what ended after some work ended after all of it
 pub ended-later : (run : Run) (a c d : Sitting Event Run) (w : Waited) → HasWorked a c → IsEnded run c w d → IsEnded run a w d
-ended-later run a c d W.Quiet h e = ((e.0.0, worked-on a c e.0.0 h e.0.1, e.0.2, e.0.3), e.1, e.2)
+ended-later run a c d W.Quiet h e = (let le = h.looks in let more = e.0 in omega (arith, le, more), e.1, e.2)
 ended-later run a c d (W.Halted stop) h e = e
 
 -- first all callers had left, and then nothing was open
 pub quiet-ended : (run : Run) (items events : ℕ) (c a d : Sitting Event Run) (left : ℕ) → IsSame c a → IsSame a d → a.looks < d.looks → c.about ≡ about_of run items events
     → line.is_legal parties_of births_of run_allows d.about d.seen ≡ true → left ≡ count_by is_leave a.seen → left ≡ run.callers → most (open_after run.shape d.seen) ≡ 0 → IsEnded run c W.Quiet d
 quiet-ended run items events c a d left ca ad looks about l counted all none = (
-  (a, worked-kept c a ca.0, ad, looks),
+  (let le = ca.0.looks in omega (arith, le, looks)),
   all-left run items events a d ad.0.seen (ad.0.about ∙ (ca.0.about ∙ about)) l (sym counted ∙ all),
   none-open (open_after run.shape d.seen) none,
 )

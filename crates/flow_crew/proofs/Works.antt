@@ -1,5 +1,5 @@
 -- What calls of the book leave of those who work.
-use Rattle.std.proofs.Common.{◌≡◌, ℕ, Bool, true, false, not, ◌&&◌, ◌||◌, Option, Some, None, List, [], ◌∷◌, ◌++◌, length, refl, sym, ap, ◌∙◌, subst, eq-eqb}
+use Rattle.std.proofs.Common.{◌≡◌, ℕ, Bool, true, false, not, ◌&&◌, ◌||◌, Option, Some, None, List, [], ◌∷◌, ◌++◌, length, refl, sym, ap, ◌∙◌, subst, eq-eqb, arith}
 use Rattle.std.specs.Prelude.{is_none}
 use Rattle.std.specs.List.{list_any}
 use mathlib.Core.List.{IsPrefix}
@@ -79,13 +79,14 @@ halted-kept c d Meant Memory h = h.0
 -- ---- what a chair's party made
 
 pub worked-none : (c : Sitting Event Run) → HasWorked c c
-worked-none c = record { party = refl; own = prefix_self c.own; seen = prefix_self c.seen }
+worked-none c = record { party = refl; own = prefix_self c.own; seen = prefix_self c.seen; looks = omega arith }
 
 pub worked-on : (c d f : Sitting Event Run) → HasWorked c d → HasWorked d f → HasWorked c f
 worked-on c d f h g = record {
   party = g.party ∙ h.party;
   own = prefix_trans c.own d.own f.own h.own g.own;
   seen = prefix_trans c.seen d.seen f.seen h.seen g.seen;
+  looks = let le = h.looks in let le2 = g.looks in omega (arith, le, le2);
 }
 
 pub worked-kept : (c d : Sitting Event Run) → IsKept c d → HasWorked c d
@@ -93,6 +94,7 @@ worked-kept c d k = record {
   party = k.party;
   own = subst (λ (es : List Event). IsPrefix c.own es) (sym k.own) (prefix_self c.own);
   seen = k.seen;
+  looks = k.looks;
 }
 
 pub worked-done : (c d : Sitting Event Run) (e : Event) → IsDone c e d → HasWorked c d
@@ -100,6 +102,7 @@ worked-done c d e m = record {
   party = m.party;
   own = prefix_snoc c.own c.own d.own e (prefix_self c.own) m.own;
   seen = prefix_snoc c.seen m.log d.seen e m.start m.seen;
+  looks = m.looks;
 }
 
 -- ---- callers

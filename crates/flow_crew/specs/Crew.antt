@@ -1,5 +1,5 @@
 -- Who works on a graph, and what a call leaves.
-use Rattle.std.specs.Prelude.{◌≡◌, ℕ, ◌<◌, Bool, true, false, is_none, Option, Some, None, List, [], slice_get, length, IfSome, ⊤}
+use Rattle.std.specs.Prelude.{◌≡◌, ℕ, ◌<◌, ◌≤◌, Bool, true, false, is_none, Option, Some, None, List, [], slice_get, length, IfSome, ⊤}
 use Rattle.std.specs.List.{count_by}
 use mathlib.Core.List.{IsPrefix}
 use Rattle.flow_item.specs.declared.event.Event.{Event}
@@ -14,13 +14,15 @@ use Rattle.flow_book.specs.declared.job.Job.{Job}
 use Rattle.flow_book.specs.declared.job.JobBody.{JobBody}
 use Rattle.flow_book.specs.declared.serve.Did.{Did}
 use Rattle.flow_book.specs.declared.serve.Did.TheVariants as D
-use Rattle.flow_book.specs.Answers.{about_of, passes, IsSame}
+use Rattle.flow_book.specs.Answers.{about_of, passes}
 use Rattle.flow_book.specs.Callers.{is_caller_of, is_worker_about}
 use Rattle.flow_book.specs.Jobs.{body_of, IsJob, RunsJob}
 use Rattle.flow_book.specs.Stopped.{Shows}
 use Rattle.flow_crew.specs.Bodies.{KeepsOwn}
 use Rattle.flow_crew.specs.declared.waited.Waited.{Waited}
 use Rattle.flow_crew.specs.declared.waited.Waited.TheVariants as W
+use Rattle.flow_crew.specs.declared.worker.Step.{Step}
+use Rattle.flow_crew.specs.declared.worker.Step.TheVariants as S
 use Rattle.flow_crew.specs.declared.worker.Turn.{Turn}
 use Rattle.flow_crew.specs.declared.worker.Turn.TheVariants as T
 
@@ -76,11 +78,12 @@ IsGiven run c (D.Event first second) = (first < length run.shape.nodes) × IfSom
 IsGiven run c (D.Start job) = RunsJob run c job × (job.node < length run.shape.nodes) × HasBegun c job
 IsGiven run c D.Rest = ⊤
 
--- the chair's party made some events more, or none
+-- the chair's party made some events more, or none, and saw more, or nothing
 pub record HasWorked (c d : Sitting Event Run) : Type 0 where
   pub party : d.party ≡ c.party
   pub own : IsPrefix c.own d.own
   pub seen : IsPrefix c.seen d.seen
+  pub looks : c.looks ≤ d.looks
 
 -- ---- how calls end
 
@@ -89,13 +92,17 @@ abbrev pub is_refused : Turn → Bool
 is_refused T.Refused = true
 is_refused t = false
 
+-- and in the look at a node
+abbrev pub is_halting : Step → Bool
+is_halting S.Refused = true
+is_halting s = false
+
 -- how a caller's wait ended, as its chair tells: it saw the whole journal at a moment of the call, and nothing was open; or it shows why all is halted
 abbrev pub IsWaited : Run → Sitting Event Run → Waited → Sitting Event Run → Type 0
 IsWaited run c W.Quiet d = (c.looks < d.looks) × (open_after run.shape d.seen ≡ 0)
 IsWaited run c (W.Halted stop) d = Shows d stop
 
--- how the work of a worker ended, as its chair tells: since its last event it saw the whole journal at a moment, all callers had left, and nothing was open; or it shows why all is halted
+-- how the work of a worker ended, as its chair tells: it saw the whole journal at a moment of the call, all callers had left, and nothing was open; or it shows why all is halted
 abbrev pub IsEnded : Run → Sitting Event Run → Waited → Sitting Event Run → Type 0
-IsEnded run c W.Quiet d =
-    ((k : Sitting Event Run) × HasWorked c k × IsSame k d × (k.looks < d.looks)) × (count_by is_leave d.seen ≡ run.callers) × (open_after run.shape d.seen ≡ 0)
+IsEnded run c W.Quiet d = (c.looks < d.looks) × (count_by is_leave d.seen ≡ run.callers) × (open_after run.shape d.seen ≡ 0)
 IsEnded run c (W.Halted stop) d = Shows d stop

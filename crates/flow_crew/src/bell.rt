@@ -4,12 +4,17 @@ use std::sync::atomic::{AtomicU64, Ordering};
 
 // A word to sleep on. Who finds no node says so before it looks once more, and then sleeps until a ring that came after
 // it said so. So no ring is missed, and nobody who sleeps burns a core.
+//
+// While one is called and hasn't come, no other is. Who begins to listen or ends it forgets the call: after that it looks
+// once more, or rings again.
 #[derive(Drop)]
 struct Rope {
     // How often it rang.
     rings: AtomicU64,
     // How many sleep, or are about to.
     listeners: AtomicU64,
+    // Whether one is called, and hasn't come: 1 or 0.
+    called: AtomicU64,
 }
 
 impl Rope {
@@ -18,18 +23,22 @@ impl Rope {
         Rope {
             rings: AtomicU64::new(0),
             listeners: AtomicU64::new(0),
+            called: AtomicU64::new(0),
         }
     }
 
     // Listens from now on. Answers which ring was the last.
     fn listen(&self) -> u32 {
         self.listeners.fetch_add(1, Ordering::SeqCst);
-        (self.rings.load(Ordering::SeqCst) % (1 << 32)) as u32
+        let last = (self.rings.load(Ordering::SeqCst) % (1 << 32)) as u32;
+        self.called.store(0, Ordering::SeqCst);
+        last
     }
 
-    // Listens no more.
-    fn leave(&self) {
+    // Listens no more. Whether one was called.
+    fn leave(&self) -> bool {
         self.listeners.fetch_sub(1, Ordering::SeqCst);
+        self.called.swap(0, Ordering::SeqCst) != 0
     }
 
     // Whether somebody listens.
@@ -37,10 +46,22 @@ impl Rope {
         self.listeners.load(Ordering::SeqCst) != 0
     }
 
-    // Wakes one who listens.
+    // Whether nobody was called: from now on one is.
+    fn begins_call(&self) -> bool {
+        self.called.load(Ordering::SeqCst) == 0 && self.called.swap(1, Ordering::SeqCst) == 0
+    }
+
+    // Wakes one who listens, unless one is called already.
     fn ring(&self) {
-        self.rings.fetch_add(1, Ordering::SeqCst);
-        self.rings.wake_one();
+        if !self.begins_call() {
+            return;
+        }
+        if self.is_heard() {
+            self.rings.fetch_add(1, Ordering::SeqCst);
+            self.rings.wake_one();
+        } else {
+            self.called.store(0, Ordering::SeqCst);
+        }
     }
 
     // Wakes all who listen.
@@ -54,6 +75,9 @@ impl Rope {
 
 /// It tells nothing: whoever is woken looks and asks again.
 ///
+/// Who is at work and has no node hunts for one before it listens. While somebody hunts nobody is woken, so who found a
+/// node wakes another: there may be more of them.
+///
 /// Something is open as long as somebody is at work. So only the last who finds no node, where an event was made since,
 /// calls on the others to ask what is open: on the callers that wait, and on the workers once all callers have left. A
 /// refusal calls on all, and so does the caller that leaves last.
@@ -64,6 +88,8 @@ pub(crate) struct Bell {
     callers: Rope,
     // How many are at work.
     busy: AtomicU64,
+    // How many of those have no node.
+    hunters: AtomicU64,
     // Whether an event was made since all were called on: 1 or 0.
     news: AtomicU64,
     // How often all were called on.
@@ -79,6 +105,7 @@ impl Bell {
             workers: Rope::new(),
             callers: Rope::new(),
             busy: AtomicU64::new(0),
+            hunters: AtomicU64::new(0),
             news: AtomicU64::new(0),
             calls: AtomicU64::new(0),
             gone: AtomicU64::new(0),
@@ -99,37 +126,59 @@ impl Bell {
         self.busy.fetch_sub(1, Ordering::SeqCst);
     }
 
-    // Listens no more, and isn't at work.
-    pub(crate) fn quit(&self, waits: bool) {
-        self.rope(waits).leave();
+    // Has no node, and hunts for one.
+    pub(crate) fn hunt(&self) {
+        self.hunters.fetch_add(1, Ordering::SeqCst);
+    }
+
+    // Found a node. Another may find one too.
+    pub(crate) fn find(&self) {
+        self.hunters.fetch_sub(1, Ordering::SeqCst);
+        self.ring();
     }
 
     // Found no node, and listens from now on. Answers which ring was the last.
     pub(crate) fn listen(&self, waits: bool) -> u32 {
         let last = self.rope(waits).listen();
         self.busy.fetch_sub(1, Ordering::SeqCst);
+        self.hunters.fetch_sub(1, Ordering::SeqCst);
         last
     }
 
-    // Is at work again, and listens no more.
+    // Listens no more, and isn't at work. Another comes for it where it was called.
+    pub(crate) fn quit(&self, waits: bool) {
+        if self.rope(waits).leave() {
+            self.ring();
+        }
+    }
+
+    // Is at work again with a node, and listens no more. Another may find one too.
     pub(crate) fn leave(&self, waits: bool) {
         self.busy.fetch_add(1, Ordering::SeqCst);
         self.rope(waits).leave();
+        self.ring();
     }
 
-    // Sleeps until a ring after that one, and is at work again.
+    // Sleeps until a ring after that one. Then it is at work again, and hunts.
     pub(crate) fn sleep<R: Wait>(&self, rt: &R, waits: bool, last: u32) {
         self.rope(waits).rings.park(rt, last);
-        self.leave(waits);
+        self.busy.fetch_add(1, Ordering::SeqCst);
+        self.hunters.fetch_add(1, Ordering::SeqCst);
+        self.rope(waits).leave();
     }
 
     // An event was made.
     pub(crate) fn tell(&self) {
-        self.news.swap(1, Ordering::SeqCst);
+        if self.news.load(Ordering::SeqCst) == 0 {
+            self.news.store(1, Ordering::SeqCst);
+        }
     }
 
-    // Wakes one who listens, a worker where there is one.
+    // Wakes one who listens, a worker where there is one, unless somebody hunts.
     pub(crate) fn ring(&self) {
+        if self.hunters.load(Ordering::SeqCst) != 0 {
+            return;
+        }
         if self.workers.is_heard() {
             self.workers.ring();
         } else if self.callers.is_heard() {

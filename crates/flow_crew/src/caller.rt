@@ -48,8 +48,8 @@ impl<B: Naming> Caller<B> {
     /// the event unless it keeps one, and for want of memory. A refusal calls on all who wait for work.
     pub fn put<R: Wait, S: Bodies, G: Gate>(
         &mut self,
-        alloc: Global,
         rt: &R,
+        alloc: Global,
         graph: &Graph<S, G, B>,
         node: u32,
         port: u32,
@@ -67,7 +67,7 @@ impl<B: Naming> Caller<B> {
         ensures made { IfOk result (λ a. IsDone self.old.chair (E.Put (number_of self.old.chair.party) node port tag val.now a) self.new.chair) }
         ensures stopped { IfErr result (λ s. IsHalted self.old.chair (λ e. (a : PutAnswer) × (e ≡ E.Put (number_of self.old.chair.party) node port tag val.now a)) self.new.chair s) }
     {
-        match graph.book.put(alloc, rt, &mut self.chair, node, port, tag, val, graph.gate) {
+        match graph.book.put(rt, alloc, &mut self.chair, node, port, tag, val, graph.gate) {
             Ok(answer) => {
                 graph.inject(rt, &mut self.worker.post, node);
                 Ok(answer)
@@ -82,7 +82,6 @@ impl<B: Naming> Caller<B> {
     /// Starts an input node; one that is started stays as it is. It costs and is refused as a put without its value.
     pub fn activate<R: Wait, S: Bodies, G: Gate>(
         &mut self,
-        alloc: Global,
         rt: &R,
         graph: &Graph<S, G, B>,
         node: u32,
@@ -98,10 +97,7 @@ impl<B: Naming> Caller<B> {
         ensures made { OnOk result (IsDone self.old.chair (E.Act (number_of self.old.chair.party) node) self.new.chair) }
         ensures stopped { IfErr result (λ s. IsHalted self.old.chair (Was (E.Act (number_of self.old.chair.party) node)) self.new.chair s) }
     {
-        match graph
-            .book
-            .activate(alloc, rt, &mut self.chair, node, graph.gate)
-        {
+        match graph.book.activate(rt, &mut self.chair, node, graph.gate) {
             Ok(()) => {
                 graph.inject(rt, &mut self.worker.post, node);
                 Ok(())
@@ -197,8 +193,8 @@ impl<B: Naming> Caller<B> {
     // One round of the wait.
     fn round<R: Wait, S: Bodies, G: Gate>(
         &mut self,
-        alloc: Global,
         rt: &R,
+        alloc: Global,
         graph: &Graph<S, G, B>,
     ) -> Option<Waited>
         requires of { IsCaller (S.meanings graph.now.bench.bodies.now) graph.now.book.run graph.now.book.items graph.now.book.events self.old.chair }
@@ -213,7 +209,7 @@ impl<B: Naming> Caller<B> {
         ensures idle { IfNone result (self.new.worker.busy ≡ false) }
         ensures ended { IfSome result (λ w. IsWaited graph.now.book.run self.old.chair w self.new.chair) }
     {
-        match self.worker.turn(alloc, rt, graph) {
+        match self.worker.turn(rt, alloc, graph) {
             Turn::Served => None,
             Turn::Refused => {
                 graph.bell.go();
@@ -225,7 +221,7 @@ impl<B: Naming> Caller<B> {
                     Some(waited)
                 }
                 None => {
-                    graph.bell.sleep(rt, true, last);
+                    self.worker.sleep(rt, graph, last);
                     None
                 }
             },
@@ -238,8 +234,8 @@ impl<B: Naming> Caller<B> {
     /// nodes: once, and then whenever it is called on. A caller whose worker couldn't end a body is halted at once.
     pub fn wait_for_all<R: Wait, S: Bodies, G: Gate>(
         &mut self,
-        alloc: Global,
         rt: &R,
+        alloc: Global,
         graph: &Graph<S, G, B>,
     ) -> Waited
         requires of { IsCaller (S.meanings graph.now.bench.bodies.now) graph.now.book.run graph.now.book.items graph.now.book.events self.old.chair }
@@ -257,7 +253,7 @@ impl<B: Naming> Caller<B> {
         }
         self.worker.come(graph);
         for _ in rt.forever() {
-            if let Some(waited) = self.round(alloc, rt, graph) {
+            if let Some(waited) = self.round(rt, alloc, graph) {
                 return waited;
             }
         }

@@ -26,7 +26,7 @@ impl<'a, S: Bodies, G: Gate, B: Naming> Graph<'a, S, G, B> {
     }
 
     // Runs a job's body. Where it finds no memory, the graph is halted.
-    pub(crate) fn run_job<R: Wait>(&self, alloc: Global, rt: &R, job: &Job) -> Option<Outs>
+    pub(crate) fn run_job<R: Wait>(&self, rt: &R, alloc: Global, job: &Job) -> Option<Outs>
         requires { HasBody self.now.book.run job.now.node job.now.body }
         ensures runs { IfSome result (λ outs. is_submit job.now.body ≡ false) }
         ensures answers { IfSome result (λ outs. answers_job (S.meanings self.now.bench.bodies.now) job.now.body job.now.item outs ≡ true) }

@@ -12,6 +12,7 @@ use crate::bell::Bell;
 use crate::bodies::{Bench, Bodies};
 use crate::caller::Caller;
 use crate::graph::Graph;
+use crate::mark::Mark;
 use crate::parts::{Parts, turn};
 use crate::worker::Worker;
 use flow_book::{Book, Gate, GraphMachine};
@@ -68,6 +69,7 @@ fn last_worker<B: Naming>(
         chair: last_chair(chairs),
         post: last_post(pool, posts),
         busy: false,
+        hunts: false,
         heard: u64::MAX,
         waits,
     }
@@ -128,6 +130,17 @@ fn hire_workers<B: Naming>(
     Ok(workers)
 }
 
+// A mark for each of so many nodes.
+fn fresh_marks(alloc: Global, nodes: u32) -> Result<Vec<Mark>, NoMemory>
+    ensures { IfOk result (λ v. length v.items ≡ nodes) }
+{
+    let mut marks = Vec::with_capacity(alloc, nodes as usize)?;
+    for _ in 0..nodes {
+        marks.push(Mark::new())?;
+    }
+    Ok(marks)
+}
+
 impl<'a, S: Bodies, G: Gate, B: Naming> Graph<'a, S, G, B> {
     /// A document's graph at its start, with a caller for each script and so many workers. Each caller is a worker too
     /// while it waits, with a number above those of the workers. The steps of the scripts are left to those who call.
@@ -174,6 +187,7 @@ impl<'a, S: Bodies, G: Gate, B: Naming> Graph<'a, S, G, B> {
             opened,
         )?;
         let (pool, mut posts) = Pool::new(alloc, workers + count, nodes)?;
+        let marks = fresh_marks(alloc, nodes)?;
         let callers = hire_callers(
             alloc,
             &pool,
@@ -190,6 +204,7 @@ impl<'a, S: Bodies, G: Gate, B: Naming> Graph<'a, S, G, B> {
             bench: Bench::of(bodies),
             gate,
             bell: Bell::new(),
+            marks,
             callers: count,
         };
         Ok(Parts {

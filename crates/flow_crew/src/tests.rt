@@ -1,5 +1,7 @@
 //! A caller and a worker of a graph of one node, one after the other.
-ghost use Rattle.std.specs.Prelude.{◌≡◌, ◌<◌, ◌≤◌, ◌^◌, [], ◌∷◌, true, length};
+ghost use Rattle.std.specs.Prelude.{◌≡◌, ◌<◌, ◌≤◌, ◌^◌, [], ◌∷◌, true, false, pos, length};
+ghost use Rattle.flow_item.specs.declared.val.Val.TheVariants as V;
+ghost use Rattle.flow_shape.specs.declared.Kind.TheVariants as K;
 ghost use Rattle.flow_doc.specs.Fits.{doc_fits};
 ghost use Rattle.flow_node.specs.Built.{is_built};
 ghost use Rattle.std.specs.List.{list_all};
@@ -218,7 +220,9 @@ fn tried<R: Wait + Abort>(
 const QUEUE: Kind = Kind::Queue { capacity: None };
 
 // A function of one body at a time, with the argument 1.
-fn function(body: u32) -> Kind {
+fn function(body: u32) -> Kind
+    ensures { result ≡ K.Function false (Some 1) body (V.Int (pos 1)) }
+{
     Kind::Function {
         reject: false,
         limit: Some(1),

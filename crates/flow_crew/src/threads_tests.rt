@@ -22,6 +22,16 @@ use std::test::*;
 use std::thread;
 use std::thread::Threads;
 
+// What those who take part share.
+#[derive(Drop)]
+struct Site<'a, R: Wait + Abort, S: Bodies, G: Gate, B: Naming> {
+    alloc: Global,
+    rt: &'a R,
+    graph: &'a Graph<'a, S, G, B>,
+    // Whether callers wait before they leave.
+    waits: bool,
+}
+
 // A caller puts so many values. How many were accepted or refused by the node.
 fn put_all<B: Naming, R: Wait, S: Bodies, G: Gate>(
     rt: &R,
@@ -109,46 +119,41 @@ fn serve<B: Naming, R: Wait + Abort, S: Bodies, G: Gate>(
 
 // All callers call, each in a thread of its own.
 fn call_all<B: Naming + Send + Sync, R: Threads + Wait + Abort + Sync, S: Bodies, G: Gate>(
-    rt: &R,
-    alloc: Global,
-    graph: &Graph<S, G, B>,
+    site: &Site<R, S, G, B>,
     callers: &mut [Caller<B>],
-    waits: bool,
 )
-    requires ready { All (λ c. IsCaller (S.meanings graph.now.bench.bodies.now) graph.now.book.run graph.now.book.items graph.now.book.events c.chair × (may_call graph.now.book.run c.chair ≡ true) × IsWorker (S.meanings graph.now.bench.bodies.now) graph.now.book.run graph.now.book.items graph.now.book.events c.worker.chair c.worker.busy × IsPostOf graph.now.pool c.worker.post) callers.old }
-    requires puts { takes_puts graph.now.book.run.shape 0 0 ≡ true }
-    ensures { All (λ c. IsCaller (S.meanings graph.now.bench.bodies.now) graph.now.book.run graph.now.book.items graph.now.book.events c.chair × IsWorker (S.meanings graph.now.bench.bodies.now) graph.now.book.run graph.now.book.items graph.now.book.events c.worker.chair c.worker.busy) callers.new }
+    requires ready { All (λ c. IsCaller (S.meanings site.now.graph.now.bench.bodies.now) site.now.graph.now.book.run site.now.graph.now.book.items site.now.graph.now.book.events c.chair × (may_call site.now.graph.now.book.run c.chair ≡ true) × IsWorker (S.meanings site.now.graph.now.bench.bodies.now) site.now.graph.now.book.run site.now.graph.now.book.items site.now.graph.now.book.events c.worker.chair c.worker.busy × IsPostOf site.now.graph.now.pool c.worker.post) callers.old }
+    requires puts { takes_puts site.now.graph.now.book.run.shape 0 0 ≡ true }
+    ensures { All (λ c. IsCaller (S.meanings site.now.graph.now.bench.bodies.now) site.now.graph.now.book.run site.now.graph.now.book.items site.now.graph.now.book.events c.chair × IsWorker (S.meanings site.now.graph.now.bench.bodies.now) site.now.graph.now.book.run site.now.graph.now.book.items site.now.graph.now.book.events c.worker.chair c.worker.busy) callers.new }
 {
     thread::for_each_mut(
-        rt,
+        site.rt,
         callers,
         64,
         &|_, caller: &mut Caller<B>|
-            requires ready { IsCaller (S.meanings graph.now.bench.bodies.now) graph.now.book.run graph.now.book.items graph.now.book.events caller.old.chair × (may_call graph.now.book.run caller.old.chair ≡ true) × IsWorker (S.meanings graph.now.bench.bodies.now) graph.now.book.run graph.now.book.items graph.now.book.events caller.old.worker.chair caller.old.worker.busy × IsPostOf graph.now.pool caller.old.worker.post }
-            requires puts { takes_puts graph.now.book.run.shape 0 0 ≡ true }
-            ensures { IsCaller (S.meanings graph.entry.now.bench.bodies.now) graph.entry.now.book.run graph.entry.now.book.items graph.entry.now.book.events caller.new.chair × IsWorker (S.meanings graph.entry.now.bench.bodies.now) graph.entry.now.book.run graph.entry.now.book.items graph.entry.now.book.events caller.new.worker.chair caller.new.worker.busy }
-        { call(rt, alloc, graph, caller, waits) },
+            requires ready { IsCaller (S.meanings site.now.graph.now.bench.bodies.now) site.now.graph.now.book.run site.now.graph.now.book.items site.now.graph.now.book.events caller.old.chair × (may_call site.now.graph.now.book.run caller.old.chair ≡ true) × IsWorker (S.meanings site.now.graph.now.bench.bodies.now) site.now.graph.now.book.run site.now.graph.now.book.items site.now.graph.now.book.events caller.old.worker.chair caller.old.worker.busy × IsPostOf site.now.graph.now.pool caller.old.worker.post }
+            requires puts { takes_puts site.now.graph.now.book.run.shape 0 0 ≡ true }
+            ensures { IsCaller (S.meanings site.entry.now.graph.now.bench.bodies.now) site.entry.now.graph.now.book.run site.entry.now.graph.now.book.items site.entry.now.graph.now.book.events caller.new.chair × IsWorker (S.meanings site.entry.now.graph.now.bench.bodies.now) site.entry.now.graph.now.book.run site.entry.now.graph.now.book.items site.entry.now.graph.now.book.events caller.new.worker.chair caller.new.worker.busy }
+        { call(site.rt, site.alloc, site.graph, caller, site.waits) },
     );
 }
 
 // All workers work, each in a thread of its own.
 fn serve_all<B: Naming + Send + Sync, R: Threads + Wait + Abort + Sync, S: Bodies, G: Gate>(
-    rt: &R,
-    alloc: Global,
-    graph: &Graph<S, G, B>,
+    site: &Site<R, S, G, B>,
     workers: &mut [Worker<B>],
 )
-    requires { All (λ w. IsWorker (S.meanings graph.now.bench.bodies.now) graph.now.book.run graph.now.book.items graph.now.book.events w.chair w.busy × IsPostOf graph.now.pool w.post) workers.old }
-    ensures { All (λ w. IsWorker (S.meanings graph.now.bench.bodies.now) graph.now.book.run graph.now.book.items graph.now.book.events w.chair w.busy) workers.new }
+    requires { All (λ w. IsWorker (S.meanings site.now.graph.now.bench.bodies.now) site.now.graph.now.book.run site.now.graph.now.book.items site.now.graph.now.book.events w.chair w.busy × IsPostOf site.now.graph.now.pool w.post) workers.old }
+    ensures { All (λ w. IsWorker (S.meanings site.now.graph.now.bench.bodies.now) site.now.graph.now.book.run site.now.graph.now.book.items site.now.graph.now.book.events w.chair w.busy) workers.new }
 {
     thread::for_each_mut(
-        rt,
+        site.rt,
         workers,
         64,
         &|_, worker: &mut Worker<B>|
-            requires { IsWorker (S.meanings graph.now.bench.bodies.now) graph.now.book.run graph.now.book.items graph.now.book.events worker.old.chair worker.old.busy × IsPostOf graph.now.pool worker.old.post }
-            ensures { IsWorker (S.meanings graph.entry.now.bench.bodies.now) graph.entry.now.book.run graph.entry.now.book.items graph.entry.now.book.events worker.new.chair worker.new.busy }
-        { serve(rt, alloc, graph, worker) },
+            requires { IsWorker (S.meanings site.now.graph.now.bench.bodies.now) site.now.graph.now.book.run site.now.graph.now.book.items site.now.graph.now.book.events worker.old.chair worker.old.busy × IsPostOf site.now.graph.now.pool worker.old.post }
+            ensures { IsWorker (S.meanings site.entry.now.graph.now.bench.bodies.now) site.entry.now.graph.now.book.run site.entry.now.graph.now.book.items site.entry.now.graph.now.book.events worker.new.chair worker.new.busy }
+        { serve(site.rt, site.alloc, site.graph, worker) },
     );
 }
 
@@ -168,8 +173,14 @@ fn run_parts<B: Naming + Send + Sync, R: Threads + Wait + Abort + Sync, S: Bodie
     ensures worked { All (λ w. IsWorker (S.meanings graph.now.bench.bodies.now) graph.now.book.run graph.now.book.items graph.now.book.events w.chair w.busy) workers.new }
     ensures counts { (length callers.new ≡ length callers.old) × (length workers.new ≡ length workers.old) }
 {
-    call_all(rt, alloc, graph, callers, waits);
-    serve_all(rt, alloc, graph, workers);
+    let site = Site {
+        alloc,
+        rt,
+        graph,
+        waits,
+    };
+    call_all(&site, callers);
+    serve_all(&site, workers);
 }
 
 // Four callers and four workers. The journal, and the event that was refused.

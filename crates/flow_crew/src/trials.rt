@@ -170,7 +170,7 @@ pub(crate) fn put<B: Naming, R: Wait, S: Bodies, G: Gate>(
     ensures post { IsPostOf graph.now.pool caller.new.worker.post }
     ensures calls { may_call graph.now.book.run caller.new.chair ≡ true }
 {
-    match caller.put(alloc, rt, graph, 0, 0, tag, &Val::Int(5)) {
+    match caller.put(rt, alloc, graph, 0, 0, tag, &Val::Int(5)) {
         Ok(answer) => Ok(answer),
         Err(stop) => Err(stop),
     }
@@ -192,7 +192,7 @@ pub(crate) fn wait<B: Naming, R: Wait, S: Bodies, G: Gate>(
     ensures post { IsPostOf graph.now.pool caller.new.worker.post }
     ensures calls { may_call graph.now.book.run caller.new.chair ≡ true }
 {
-    caller.wait_for_all(alloc, rt, graph)
+    caller.wait_for_all(rt, alloc, graph)
 }
 
 /// A caller leaves.
@@ -225,7 +225,7 @@ pub(crate) fn work<B: Naming, R: Wait, S: Bodies, G: Gate>(
     ensures of { IsWorker (S.meanings graph.now.bench.bodies.now) graph.now.book.run graph.now.book.items graph.now.book.events worker.new.chair worker.new.busy }
     ensures post { IsPostOf graph.now.pool worker.new.post }
 {
-    worker.run(alloc, rt, graph)
+    worker.run(rt, alloc, graph)
 }
 
 /// Closes a graph of one caller and one worker.

@@ -7,7 +7,7 @@ ghost use Rattle.flow_pool.specs.Posts.{IsPostOf};
 ghost use Rattle.flow_book.specs.Answers.{IsSame};
 ghost use Rattle.flow_book.specs.Jobs.{RunsJob, is_submit};
 ghost use Rattle.flow_crew.specs.Bodies.{answers_job};
-ghost use Rattle.flow_crew.specs.Crew.{HasBegun, HasWorked, IsEnded, IsGiven, IsWorker, is_refused, is_started};
+ghost use Rattle.flow_crew.specs.Crew.{HasBegun, HasWorked, IsEnded, IsGiven, IsWorker, is_halting, is_refused, is_started};
 
 use crate::bodies::Bodies;
 use crate::graph::Graph;
@@ -17,6 +17,7 @@ use flow_item::{Outs, Party};
 use flow_line::{Chair, Naming};
 use flow_pool::Post;
 use std::alloc::Global;
+use std::hint::spin_loop;
 use std::sync::Wait;
 
 /// Who serves the nodes of a graph and runs their bodies.
@@ -26,16 +27,21 @@ pub struct Worker<B: Naming> {
     pub(crate) post: Post,
     // A body of it couldn't be ended, and runs for ever.
     pub(crate) busy: bool,
+    // It has no node, and hunts for one.
+    pub(crate) hunts: bool,
     // After so many calls of the bell it asked what is open.
     pub(crate) heard: u64,
     // It is that of a caller, and works while the caller waits.
     pub(crate) waits: bool,
 }
 
+// How often a worker that has no node looks for one before it listens.
+const LOOKS: u32 = 64;
+
 // What became of one turn of a worker.
 #[derive(Clone, Copy, Debug)]
 pub(crate) enum Turn {
-    // A node was served.
+    // A node was served, or another serves it.
     Served,
     // Something was refused.
     Refused,
@@ -43,11 +49,24 @@ pub(crate) enum Turn {
     Idle(u32),
 }
 
+// What became of a look at a node.
+#[derive(Clone, Copy, Debug)]
+pub(crate) enum Step {
+    // An event of it was made, and it may have more to do.
+    Made,
+    // It had nothing to do.
+    Rests,
+    // A body of it was run, and another tends it since.
+    Left,
+    // Something was refused.
+    Refused,
+}
+
 // Whether all went well.
-fn turn_of(well: bool) -> Turn
-    ensures { is_refused result ≡ not well }
+fn step_of(well: bool) -> Step
+    ensures { is_halting result ≡ not well }
 {
-    if well { Turn::Served } else { Turn::Refused }
+    if well { Step::Made } else { Step::Refused }
 }
 
 impl<B: Naming> Worker<B> {
@@ -68,8 +87,8 @@ impl<B: Naming> Worker<B> {
     // Serves a node of the pool.
     pub(crate) fn turn<R: Wait, S: Bodies, G: Gate>(
         &mut self,
-        alloc: Global,
         rt: &R,
+        alloc: Global,
         graph: &Graph<S, G, B>,
     ) -> Turn
         requires of { IsWorker (S.meanings graph.now.bench.bodies.now) graph.now.book.run graph.now.book.items graph.now.book.events self.old.chair self.old.busy }
@@ -80,17 +99,65 @@ impl<B: Naming> Worker<B> {
         ensures worked { HasWorked self.old.chair self.new.chair }
         ensures idle { is_refused result ≡ false → self.new.busy ≡ false }
     {
-        match graph.pool.take(rt, &mut self.post) {
-            Some(node) => self.serve(alloc, rt, graph, node),
-            None => self.turn_again(alloc, rt, graph),
+        if self.hunts {
+            return self.hunt(rt, alloc, graph);
         }
+        match graph.pool.take(rt, &mut self.post) {
+            Some(node) => self.try_tend(rt, alloc, graph, node),
+            None => {
+                graph.bell.hunt();
+                self.hunts = true;
+                self.hunt(rt, alloc, graph)
+            }
+        }
+    }
+
+    // Looks for a node for a while.
+    fn hunt<R: Wait, S: Bodies, G: Gate>(
+        &mut self,
+        rt: &R,
+        alloc: Global,
+        graph: &Graph<S, G, B>,
+    ) -> Turn
+        requires of { IsWorker (S.meanings graph.now.bench.bodies.now) graph.now.book.run graph.now.book.items graph.now.book.events self.old.chair self.old.busy }
+        requires post { IsPostOf graph.now.pool self.old.post }
+        requires idle { self.old.busy ≡ false }
+        ensures of { IsWorker (S.meanings graph.now.bench.bodies.now) graph.now.book.run graph.now.book.items graph.now.book.events self.new.chair self.new.busy }
+        ensures post { IsPostOf graph.now.pool self.new.post }
+        ensures worked { HasWorked self.old.chair self.new.chair }
+        ensures idle { is_refused result ≡ false → self.new.busy ≡ false }
+    {
+        match self.seek(rt, graph) {
+            Some(node) => {
+                self.hunts = false;
+                graph.bell.find();
+                self.try_tend(rt, alloc, graph, node)
+            }
+            None => self.turn_again(rt, alloc, graph),
+        }
+    }
+
+    // Takes a node out of the pool, where one is found in so many looks.
+    fn seek<R: Wait, S: Bodies, G: Gate>(&mut self, rt: &R, graph: &Graph<S, G, B>) -> Option<u32>
+        requires post { IsPostOf graph.now.pool self.old.post }
+        ensures post { IsPostOf graph.now.pool self.new.post }
+        ensures same { (self.new.chair ≡ self.old.chair) × (self.new.busy ≡ self.old.busy) }
+        ensures node { IfSome result (λ n. n < length graph.now.book.run.shape.nodes) }
+    {
+        for _ in 0..LOOKS {
+            if let Some(node) = graph.pool.take(rt, &mut self.post) {
+                return Some(node);
+            }
+            spin_loop();
+        }
+        None
     }
 
     // Listens, and looks once more.
     fn turn_again<R: Wait, S: Bodies, G: Gate>(
         &mut self,
-        alloc: Global,
         rt: &R,
+        alloc: Global,
         graph: &Graph<S, G, B>,
     ) -> Turn
         requires of { IsWorker (S.meanings graph.now.bench.bodies.now) graph.now.book.run graph.now.book.items graph.now.book.events self.old.chair self.old.busy }
@@ -101,22 +168,35 @@ impl<B: Naming> Worker<B> {
         ensures worked { HasWorked self.old.chair self.new.chair }
         ensures idle { is_refused result ≡ false → self.new.busy ≡ false }
     {
+        self.hunts = false;
         let last = graph.bell.listen(self.waits);
         match graph.pool.take(rt, &mut self.post) {
             Some(node) => {
                 graph.bell.leave(self.waits);
-                graph.bell.ring();
-                self.serve(alloc, rt, graph, node)
+                self.try_tend(rt, alloc, graph, node)
             }
             None => Turn::Idle(last),
         }
     }
 
-    // Serves a node.
-    fn serve<R: Wait, S: Bodies, G: Gate>(
+    // Sleeps until a ring after that one, and then hunts.
+    pub(crate) fn sleep<R: Wait, S: Bodies, G: Gate>(
         &mut self,
-        alloc: Global,
         rt: &R,
+        graph: &Graph<S, G, B>,
+        last: u32,
+    )
+        ensures { (self.new.chair ≡ self.old.chair) × (self.new.busy ≡ self.old.busy) × (self.new.post ≡ self.old.post) }
+    {
+        graph.bell.sleep(rt, self.waits, last);
+        self.hunts = true;
+    }
+
+    // Tends a node that it took out of the pool, unless another does.
+    fn try_tend<R: Wait, S: Bodies, G: Gate>(
+        &mut self,
+        rt: &R,
+        alloc: Global,
         graph: &Graph<S, G, B>,
         node: u32,
     ) -> Turn
@@ -129,27 +209,82 @@ impl<B: Naming> Worker<B> {
         ensures worked { HasWorked self.old.chair self.new.chair }
         ensures idle { is_refused result ≡ false → self.new.busy ≡ false }
     {
+        if !graph.mark(node).take(rt) {
+            return Turn::Served;
+        }
+        self.tend(rt, alloc, graph, node)
+    }
+
+    // Serves a node until it rests, or another tends it.
+    fn tend<R: Wait, S: Bodies, G: Gate>(
+        &mut self,
+        rt: &R,
+        alloc: Global,
+        graph: &Graph<S, G, B>,
+        node: u32,
+    ) -> Turn
+        requires of { IsWorker (S.meanings graph.now.bench.bodies.now) graph.now.book.run graph.now.book.items graph.now.book.events self.old.chair self.old.busy }
+        requires post { IsPostOf graph.now.pool self.old.post }
+        requires idle { self.old.busy ≡ false }
+        requires node { node < length graph.now.book.run.shape.nodes }
+        ensures of { IsWorker (S.meanings graph.now.bench.bodies.now) graph.now.book.run graph.now.book.items graph.now.book.events self.new.chair self.new.busy }
+        ensures post { IsPostOf graph.now.pool self.new.post }
+        ensures worked { HasWorked self.old.chair self.new.chair }
+        ensures idle { is_refused result ≡ false → self.new.busy ≡ false }
+    {
+        for _ in rt.forever() {
+            match self.serve(rt, alloc, graph, node) {
+                Step::Made => {}
+                Step::Rests => {
+                    if graph.mark(node).rest() {
+                        return Turn::Served;
+                    }
+                }
+                Step::Left => return Turn::Served,
+                Step::Refused => return Turn::Refused,
+            }
+        }
+        unreachable!()
+    }
+
+    // Makes the event of a node's wish.
+    fn serve<R: Wait, S: Bodies, G: Gate>(
+        &mut self,
+        rt: &R,
+        alloc: Global,
+        graph: &Graph<S, G, B>,
+        node: u32,
+    ) -> Step
+        requires of { IsWorker (S.meanings graph.now.bench.bodies.now) graph.now.book.run graph.now.book.items graph.now.book.events self.old.chair self.old.busy }
+        requires post { IsPostOf graph.now.pool self.old.post }
+        requires idle { self.old.busy ≡ false }
+        requires node { node < length graph.now.book.run.shape.nodes }
+        ensures of { IsWorker (S.meanings graph.now.bench.bodies.now) graph.now.book.run graph.now.book.items graph.now.book.events self.new.chair self.new.busy }
+        ensures post { IsPostOf graph.now.pool self.new.post }
+        ensures worked { HasWorked self.old.chair self.new.chair }
+        ensures idle { is_halting result ≡ false → self.new.busy ≡ false }
+    {
         match graph
             .book
-            .serve(alloc, rt, &mut self.chair, node, graph.gate)
+            .serve(rt, alloc, &mut self.chair, node, graph.gate)
         {
             Ok(did) => {
                 let _ = self.chair.len();
                 let _ = self.chair.own_len();
-                self.follow(alloc, rt, graph, did)
+                self.follow(rt, alloc, graph, did)
             }
-            Err(_) => Turn::Refused,
+            Err(_) => Step::Refused,
         }
     }
 
     // Does what follows from what was done at a node.
     fn follow<R: Wait, S: Bodies, G: Gate>(
         &mut self,
-        alloc: Global,
         rt: &R,
+        alloc: Global,
         graph: &Graph<S, G, B>,
         did: Did,
-    ) -> Turn
+    ) -> Step
         requires of { IsWorker (S.meanings graph.now.bench.bodies.now) graph.now.book.run graph.now.book.items graph.now.book.events self.old.chair (is_started did) }
         requires post { IsPostOf graph.now.pool self.old.post }
         requires idle { self.old.busy ≡ false }
@@ -157,26 +292,26 @@ impl<B: Naming> Worker<B> {
         ensures of { IsWorker (S.meanings graph.now.bench.bodies.now) graph.now.book.run graph.now.book.items graph.now.book.events self.new.chair self.new.busy }
         ensures post { IsPostOf graph.now.pool self.new.post }
         ensures worked { HasWorked self.old.chair self.new.chair }
-        ensures idle { is_refused result ≡ false → self.new.busy ≡ false }
+        ensures idle { is_halting result ≡ false → self.new.busy ≡ false }
     {
         match did {
-            Did::Rest => Turn::Served,
-            Did::Event { first, second } => {
+            Did::Rest => Step::Rests,
+            Did::Event { second, .. } => {
                 graph.bell.tell();
-                turn_of(graph.push_nodes(rt, &mut self.post, first, second))
+                step_of(graph.tell_other(rt, &mut self.post, second))
             }
-            Did::Start(job) => self.work(alloc, rt, graph, job),
+            Did::Start(job) => self.work(rt, alloc, graph, job),
         }
     }
 
     // Runs a job that the worker has started, while no lock is held, and ends it.
     fn work<R: Wait, S: Bodies, G: Gate>(
         &mut self,
-        alloc: Global,
         rt: &R,
+        alloc: Global,
         graph: &Graph<S, G, B>,
         job: Job,
-    ) -> Turn
+    ) -> Step
         requires of { IsWorker (S.meanings graph.now.bench.bodies.now) graph.now.book.run graph.now.book.items graph.now.book.events self.old.chair true }
         requires post { IsPostOf graph.now.pool self.old.post }
         requires runs { RunsJob graph.now.book.run self.old.chair job }
@@ -185,29 +320,28 @@ impl<B: Naming> Worker<B> {
         ensures of { IsWorker (S.meanings graph.now.bench.bodies.now) graph.now.book.run graph.now.book.items graph.now.book.events self.new.chair self.new.busy }
         ensures post { IsPostOf graph.now.pool self.new.post }
         ensures worked { HasWorked self.old.chair self.new.chair }
-        ensures idle { is_refused result ≡ false → self.new.busy ≡ false }
+        ensures idle { is_halting result ≡ false → self.new.busy ≡ false }
     {
         self.busy = true;
         graph.bell.tell();
-        if !graph.push(rt, &mut self.post, job.node) {
-            return Turn::Refused;
+        if !graph.leave(rt, &mut self.post, job.node) {
+            return Step::Refused;
         }
-        graph.bell.ring();
-        match graph.run_job(alloc, rt, &job) {
-            Some(outs) => self.finish(alloc, rt, graph, job, outs),
-            None => Turn::Refused,
+        match graph.run_job(rt, alloc, &job) {
+            Some(outs) => self.finish(rt, alloc, graph, job, outs),
+            None => Step::Refused,
         }
     }
 
-    // Ends a job with these messages, and puts its node into the pool.
+    // Ends a job with these messages, and tends its node again unless another does.
     fn finish<R: Wait, S: Bodies, G: Gate>(
         &mut self,
-        alloc: Global,
         rt: &R,
+        alloc: Global,
         graph: &Graph<S, G, B>,
         job: Job,
         outs: Outs,
-    ) -> Turn
+    ) -> Step
         requires of { IsWorker (S.meanings graph.now.bench.bodies.now) graph.now.book.run graph.now.book.items graph.now.book.events self.old.chair true }
         requires post { IsPostOf graph.now.pool self.old.post }
         requires runs { RunsJob graph.now.book.run self.old.chair job }
@@ -218,20 +352,24 @@ impl<B: Naming> Worker<B> {
         ensures of { IsWorker (S.meanings graph.now.bench.bodies.now) graph.now.book.run graph.now.book.items graph.now.book.events self.new.chair self.new.busy }
         ensures post { IsPostOf graph.now.pool self.new.post }
         ensures worked { HasWorked self.old.chair self.new.chair }
-        ensures idle { is_refused result ≡ false → self.new.busy ≡ false }
+        ensures idle { is_halting result ≡ false → self.new.busy ≡ false }
     {
         let node = job.node;
-        if !self.end(alloc, rt, graph, job, outs) {
-            return Turn::Refused;
+        if !self.end(rt, alloc, graph, job, outs) {
+            return Step::Refused;
         }
-        turn_of(graph.push(rt, &mut self.post, node))
+        if graph.mark(node).resume(rt) {
+            Step::Made
+        } else {
+            Step::Left
+        }
     }
 
     // Ends a job with these messages. Answers whether it could: else the job still runs.
     fn end<R: Wait, S: Bodies, G: Gate>(
         &mut self,
-        alloc: Global,
         rt: &R,
+        alloc: Global,
         graph: &Graph<S, G, B>,
         job: Job,
         outs: Outs,
@@ -248,7 +386,7 @@ impl<B: Naming> Worker<B> {
     {
         let ended = graph
             .book
-            .finish(alloc, rt, &mut self.chair, job, outs, graph.gate)
+            .finish(rt, alloc, &mut self.chair, job, outs, graph.gate)
             .is_ok();
         let _ = self.chair.len();
         let _ = self.chair.own_len();
@@ -264,7 +402,7 @@ impl<B: Naming> Worker<B> {
         self.heard = u64::MAX;
     }
 
-    /// Whether the work has ended, and how.
+    /// Whether the work has ended, and how. It makes no event.
     pub fn ended<R: Wait, S: Bodies, G: Gate>(
         &mut self,
         rt: &R,
@@ -275,6 +413,7 @@ impl<B: Naming> Worker<B> {
         ensures of { IsWorker (S.meanings graph.now.bench.bodies.now) graph.now.book.run graph.now.book.items graph.now.book.events self.new.chair self.new.busy }
         ensures post { IsPostOf graph.now.pool self.new.post }
         ensures worked { HasWorked self.old.chair self.new.chair }
+        ensures same { IsSame self.old.chair self.new.chair }
         ensures busy { self.new.busy ≡ self.old.busy }
         ensures ended { IfSome result (λ w. IsEnded graph.now.book.run self.old.chair w self.new.chair) }
     {
@@ -331,8 +470,8 @@ impl<B: Naming> Worker<B> {
     // One round of the work.
     fn round<R: Wait, S: Bodies, G: Gate>(
         &mut self,
-        alloc: Global,
         rt: &R,
+        alloc: Global,
         graph: &Graph<S, G, B>,
     ) -> Option<Waited>
         requires of { IsWorker (S.meanings graph.now.bench.bodies.now) graph.now.book.run graph.now.book.items graph.now.book.events self.old.chair self.old.busy }
@@ -344,7 +483,7 @@ impl<B: Naming> Worker<B> {
         ensures idle { IfNone result (self.new.busy ≡ false) }
         ensures ended { IfSome result (λ w. IsEnded graph.now.book.run self.old.chair w self.new.chair) }
     {
-        match self.turn(alloc, rt, graph) {
+        match self.turn(rt, alloc, graph) {
             Turn::Served => None,
             Turn::Refused => {
                 graph.bell.go();
@@ -356,7 +495,7 @@ impl<B: Naming> Worker<B> {
                     Some(waited)
                 }
                 None => {
-                    graph.bell.sleep(rt, false, last);
+                    self.sleep(rt, graph, last);
                     None
                 }
             },
@@ -366,8 +505,8 @@ impl<B: Naming> Worker<B> {
     /// Works until all callers have left and nothing is open, or a call is refused.
     pub fn run<R: Wait, S: Bodies, G: Gate>(
         &mut self,
-        alloc: Global,
         rt: &R,
+        alloc: Global,
         graph: &Graph<S, G, B>,
     ) -> Waited
         requires of { IsWorker (S.meanings graph.now.bench.bodies.now) graph.now.book.run graph.now.book.items graph.now.book.events self.old.chair self.old.busy }
@@ -382,7 +521,7 @@ impl<B: Naming> Worker<B> {
         }
         self.come(graph);
         for _ in rt.forever() {
-            if let Some(waited) = self.round(alloc, rt, graph) {
+            if let Some(waited) = self.round(rt, alloc, graph) {
                 return waited;
             }
         }

@@ -1,9 +1,9 @@
 -- A join's part: what waits at its ports, what it offers, and what its steps leave.
-use Rattle.std.proofs.Common.{◌≡◌, ℕ, zero, suc, ◌+◌, ◌<◌, ◌≤◌, Bool, true, false, not, ◌&&◌, ◌||◌, cond, ltb, eqb, Option, Some, None, List, [], ◌∷◌, ◌++◌, length, map, take, drop, refl, sym, ap, ◌∙◌, arith, eq-eqb}
+use Rattle.std.proofs.Common.{◌≡◌, ℕ, zero, suc, ◌<◌, ◌≤◌, Bool, true, false, not, ◌&&◌, cond, eqb, Option, Some, None, List, [], ◌∷◌, ◌++◌, length, map, take, drop, refl, sym, ap, ◌∙◌, arith, eq-eqb}
 use Rattle.std.specs.Prelude.{slice_get, is_some, is_none, IfSome}
 use Rattle.std.specs.Option.{option_map, unwrap_or}
-use Rattle.std.specs.List.{find, list_all}
-use Rattle.std.proofs.lemmas.List.{length-map, map-append}
+use Rattle.std.specs.List.{find}
+use Rattle.std.proofs.lemmas.List.{length-map}
 use Rattle.std.proofs.lemmas.Bool.{eqb-true}
 use Rattle.flow_item.specs.declared.item.Item.{Item}
 use Rattle.flow_item.specs.declared.item.Id.{Id}
@@ -11,7 +11,6 @@ use Rattle.flow_item.specs.declared.val.Val.{Val}
 use Rattle.flow_item.specs.Values.{list_of}
 use Rattle.std.proofs.lemmas.Option.{same_Some}
 use Rattle.flow_item.specs.Rooms.{Roomy}
-use Rattle.flow_item.specs.declared.event.Ended.{Ended}
 use Rattle.flow_item.specs.declared.event.Ended.TheVariants as Z
 use Rattle.flow_item.specs.Lists.{has, is_empty, first, change_at}
 use Rattle.flow_item.proofs.Tests.{and_left, and_right, both_true}
@@ -19,12 +18,11 @@ use Rattle.flow_item.proofs.Places.{slice_get-below}
 use Rattle.flow_shape.specs.declared.Wire.{Wire}
 use Rattle.flow_shape.specs.Kinds.{is_keeping, is_discarding}
 use Rattle.flow_shape.specs.Places.{Place}
-use Rattle.flow_machine.specs.State.{NodeState, Cast, option_list, one_if, offer, new_cast, item_of}
-use Rattle.flow_machine.specs.Offers.{candidates, cast_candidates, offer_end, slot_end, end_of_offer, is_met, when, cons_all, fronts, with_tag, least, common_tags, matching_parts, next_tuple, tag_of, tuple_of}
-use Rattle.flow_machine.specs.WishEvents.{where_some, id_of}
+use Rattle.flow_machine.specs.State.{NodeState, option_list, one_if, offer, new_cast, item_of}
+use Rattle.flow_machine.specs.Offers.{candidates, cast_candidates, offer_end, slot_end, end_of_offer, is_met, when, cons_all, fronts, with_tag, least, common_tags, matching_parts, tag_of, tuple_of}
+use Rattle.flow_machine.specs.WishEvents.{where_some}
 use Rattle.flow_machine.specs.Ledger.{flattened}
 use Rattle.flow_machine.specs.Wishes.{shut_wish}
-use Rattle.flow_machine.specs.declared.Wish.{Wish}
 use Rattle.flow_machine.specs.declared.Wish.TheVariants as W
 use Rattle.flow_cast.specs.Casts.{RoomyCast}
 use Rattle.flow_node.specs.Parts.{cast_in, edges_over, is_roomy}

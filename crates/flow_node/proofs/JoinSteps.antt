@@ -1,24 +1,24 @@
 -- What the steps of a join leave of its node.
-use Rattle.std.proofs.Common.{◌≡◌, ℕ, ◌+◌, ◌<◌, Bool, true, false, not, ◌&&◌, cond, Option, Some, None, List, [], ◌∷◌, ◌++◌, length, refl, sym, ap, ◌∙◌, arith}
+use Rattle.std.proofs.Common.{◌≡◌, ℕ, true, false, ◌&&◌, Option, Some, None, List, [], ◌∷◌, ◌++◌, refl, sym, ap, ◌∙◌}
 use Rattle.std.specs.Prelude.{is_some}
 use Rattle.std.specs.Option.{option_map}
 use Rattle.flow_item.specs.declared.item.Item.{Item}
 use Rattle.flow_item.specs.declared.event.Ended.{Ended}
-use Rattle.flow_item.specs.Lists.{has, is_empty, change_at}
+use Rattle.flow_item.specs.Lists.{is_empty, change_at}
 use Rattle.flow_item.proofs.Tests.{and_left, and_right, both_true}
 use Rattle.flow_shape.specs.declared.Wire.{Wire}
 use Rattle.flow_machine.specs.State.{Cast, join_part, option_list, new_cast, cast_give, cast_refuse}
-use Rattle.flow_machine.specs.Offers.{candidates, when, next_tuple, tag_of, tuple_of}
+use Rattle.flow_machine.specs.Offers.{candidates, next_tuple, tag_of, tuple_of}
 use Rattle.flow_machine.specs.After.{part_after_arrival, part_after_give, part_after_refuse, part_after_form, part_after_shut, ports_after_form}
 use Rattle.flow_machine.specs.OpenParts.{holds_in}
 use Rattle.flow_cast.specs.Casts.{RoomyCast}
-use Rattle.flow_node.specs.Parts.{cast_in, edges_over, is_roomy, given_over}
-use Rattle.flow_node.specs.Joins.{JoinView, ports_of, rule_of, ready_parts, tuple_in, join_kind, join_state, join_part_of, tuple_cast, is_slot_roomy, has_tuple_room, is_join_whole}
+use Rattle.flow_node.specs.Parts.{cast_in, given_over}
+use Rattle.flow_node.specs.Joins.{JoinView, ports_of, rule_of, ready_parts, tuple_in, join_kind, join_part_of, tuple_cast, is_slot_roomy, has_tuple_room, is_join_whole}
 use Rattle.flow_node.specs.Kept.{Steps}
 use Rattle.flow_node.specs.declared.base.Base.{Base}
 use Rattle.flow_node.specs.declared.part.Part.TheVariants as P
 use Rattle.flow_node.proofs.CastLemmas.{roomy-given}
-use Rattle.flow_node.proofs.FunctionLemmas.{may, offered, roomy-free}
+use Rattle.flow_node.proofs.FunctionLemmas.{offered, roomy-free}
 use Rattle.flow_node.proofs.JoinLemmas.{place, state, join-candidates, open-slot, tuple-is}
 
 -- ---- the cast in the slot

@@ -1,5 +1,5 @@
 -- What the steps of a part leave of its node.
-use Rattle.std.proofs.Common.{◌≡◌, ℕ, suc, ◌+◌, ◌≤◌, Bool, true, false, not, ◌&&◌, ◌||◌, cond, eqb, ltb, Option, Some, None, Err, List, [], ◌∷◌, length, map, drop, refl, sym, ap, ◌∙◌, arith, eq-eqb, ◌<◌}
+use Rattle.std.proofs.Common.{◌≡◌, ℕ, suc, ◌+◌, ◌≤◌, Bool, true, false, not, ◌&&◌, ◌||◌, cond, eqb, ltb, Option, Some, None, Err, List, [], ◌∷◌, length, map, refl, sym, ap, ◌∙◌, arith, eq-eqb, ◌<◌}
 use Rattle.flow_node.proofs.JoinLemmas.{join-keeps}
 use Rattle.flow_item.specs.declared.item.Id.{Id}
 use Rattle.std.specs.Prelude.{is_none, is_some, IsSome}
@@ -24,9 +24,8 @@ use Rattle.flow_item.specs.declared.event.Parties.{Parties}
 use Rattle.flow_item.specs.Events.{parties_of, both, ends}
 use Rattle.flow_item.specs.Legal.{takes_part, is_second}
 use Rattle.flow_item.specs.Values.{same_item}
-use Rattle.flow_item.specs.Lists.{has, is_empty, first, drop_first, without}
+use Rattle.flow_item.specs.Lists.{has, is_empty, first, without}
 use Rattle.flow_item.proofs.Tests.{and_left, and_right}
-use Rattle.flow_item.proofs.Equal.{item-equal}
 use Rattle.flow_shape.specs.declared.Kind.TheVariants as K
 use Rattle.flow_shape.specs.declared.Wire.{Wire}
 use Rattle.flow_shape.specs.Kinds.{is_keeping, is_discarding, is_for_callers}
@@ -147,7 +146,7 @@ told place l all here wired =
     record { keeps = rw (here, w.1) kept; turns = rw (here, w.1) turned }
 
 -- where an edge joins two nodes, the other end isn't this node
-other-end : (l : Link) (n : ℕ) → eqb l.from l.to ≡ false → l.from ≡ n → eqb l.to n ≡ false
+pub other-end : (l : Link) (n : ℕ) → eqb l.from l.to ≡ false → l.from ≡ n → eqb l.to n ≡ false
 other-end l n apart here = rw (← here) (by_back (eqb l.to l.from) refl)
   where
     by_back : (d : Bool) → eqb l.to l.from ≡ d → d ≡ false
@@ -155,7 +154,7 @@ other-end l n apart here = rw (← here) (by_back (eqb l.to l.from) refl)
     by_back false f = refl
 
 -- the second of two nodes isn't where the edge begins
-off_end : (l : Link) (a n : ℕ) → ends l ≡ both (Node a) (Node n) → eqb l.from n ≡ false
+pub off_end : (l : Link) (a n : ℕ) → ends l ≡ both (Node a) (Node n) → eqb l.from n ≡ false
 off_end l a n h = by_loop (eqb l.from l.to) refl (ap (λ (p : Parties). p.second) h)
   where
     by_loop : (b : Bool) → eqb l.from l.to ≡ b → ◌≡◌ {A = Option Party} (cond (eqb l.from l.to) None (Some (Node l.to))) (Some (Node n)) → eqb l.from n ≡ false

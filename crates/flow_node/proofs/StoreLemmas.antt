@@ -1,5 +1,5 @@
 -- What a store offers, and what it has after its steps.
-use Rattle.std.proofs.Common.{◌≡◌, ℕ, zero, suc, ◌+◌, ◌<◌, ◌≤◌, ◌^◌, Bool, true, false, not, ◌&&◌, ◌||◌, cond, eqb, ltb, leb, Option, Some, None, List, [], ◌∷◌, ◌++◌, length, take, drop, filter, refl, sym, ap, ◌∙◌, arith, eq-eqb, subst}
+use Rattle.std.proofs.Common.{◌≡◌, ℕ, suc, ◌+◌, ◌<◌, ◌≤◌, ◌^◌, Bool, true, false, ◌&&◌, ◌||◌, cond, ltb, Option, Some, None, List, [], ◌∷◌, length, take, drop, filter, refl, ap, ◌∙◌, arith, eq-eqb}
 use Rattle.std.specs.Prelude.{is_none, slice_get}
 use Rattle.std.specs.Option.{option_map, option_or}
 use Rattle.std.specs.List.{list_all, list_any, find}
@@ -18,15 +18,15 @@ use Rattle.flow_item.proofs.Equal.{item-equal}
 use Rattle.flow_shape.specs.declared.Kind.{Kind}
 use Rattle.flow_shape.specs.declared.Kind.TheVariants as K
 use Rattle.flow_shape.specs.Places.{Place}
-use Rattle.flow_machine.specs.State.{StoreState, Part, store_part, keeper_part, body_part, input_part, limiter_part, join_part, reserve_part, broadcast_part, split_part, continue_part, option_list, item_of}
-use Rattle.flow_machine.specs.Offers.{when, store_front, first_greatest, first_of_greater, candidates, part_candidates, Room, lands, bars, part_room}
+use Rattle.flow_machine.specs.State.{StoreState, Part, store_part, option_list, item_of}
+use Rattle.flow_machine.specs.Offers.{when, store_front, first_greatest, first_of_greater, part_candidates, lands}
 use Rattle.flow_machine.specs.Enabled.{is_numbered}
 use Rattle.flow_machine.specs.After.{next_tag, part_after_arrival, part_after_give, part_after_refuse, part_after_start, part_after_shut, part_after_cancel, part_after_end}
 use Rattle.flow_machine.specs.PrintOrder.{insert_by, sorted_by, store_in_order, ranks_before, tagged_before}
 use Rattle.flow_machine.specs.Wishes.{offer_wish}
 use Rattle.flow_machine.specs.declared.Wish.{Wish}
 use Rattle.flow_machine.specs.declared.Wish.TheVariants as W
-use Rattle.flow_store.specs.Stores.{may_go, goes, is_new, tag_after, after_put}
+use Rattle.flow_store.specs.Stores.{may_go, is_new, tag_after, after_put}
 use Rattle.flow_node.specs.Parts.{takes_in, with_item}
 use Rattle.flow_node.specs.Kept.{place_with, state_with, is_counted}
 use Rattle.flow_node.specs.declared.base.Base.{Base}
@@ -166,8 +166,8 @@ same-numbered i (j ∷ js) h = by_first (same_item i j) refl h (same-numbered i 
     by_first true e h later = let same : i ≡ j = item-equal i j e in rw (← same, eq-eqb i.id.no i.id.no refl)
     by_first false e h later = rw (later h) (or_true (is_numbered i.id.no j))
 
-stored : (k : Kind) (s : StoreState) (i : Item) → list_any (same_item i) (when (is_none s.lock) (store_front k s.items s.next)) ≡ true → list_any (is_numbered i.id.no) s.items ≡ true
-stored k s i h = any-front (is_numbered i.id.no) k s.items s.next (any-when (is_none s.lock) (is_numbered i.id.no) (store_front k s.items s.next) (same-numbered i (when (is_none s.lock) (store_front k s.items s.next)) h))
+stored : (k : Kind) (s : StoreState) (i : ℕ) → list_any (is_numbered i) (when (is_none s.lock) (store_front k s.items s.next)) ≡ true → list_any (is_numbered i) s.items ≡ true
+stored k s i h = any-front (is_numbered i) k s.items s.next (any-when (is_none s.lock) (is_numbered i) (store_front k s.items s.next) h)
 
 -- ---- the numbers of its items
 
@@ -216,19 +216,19 @@ next-up K.Sequencer next = omega arith
 next-up k next = omega arith
 
 -- an item went
-pub counted-given : (place : Place) (push : List ℕ) (x made : ℕ) (i : Item) (p : Part) → list_any (same_item i) (part_candidates place push x p) ≡ true → is_counted made p ≡ true → is_counted made (part_after_give place.kind p x i.id.no) ≡ true
+pub counted-given : (place : Place) (push : List ℕ) (x made i : ℕ) (p : Part) → list_any (is_numbered i) (part_candidates place push x p) ≡ true → is_counted made p ≡ true → is_counted made (part_after_give place.kind p x i) ≡ true
 counted-given place push x made i (store_part s) may h =
     let few = leb-true (s.next + length s.items) made (and_right (is_new made s.items) _ h) in
-    let less = length-dropped (is_numbered i.id.no) s.items (stored place.kind s i may) in
+    let less = length-dropped (is_numbered i) s.items (stored place.kind s i may) in
     let up = next-up place.kind s.next in
-    both_true (all-dropped (is_numbered i.id.no) _ s.items (and_left (is_new made s.items) _ h)) (le-leb _ _ (omega (arith, few, less, up)))
+    both_true (all-dropped (is_numbered i) _ s.items (and_left (is_new made s.items) _ h)) (le-leb _ _ (omega (arith, few, less, up)))
 counted-given place push x made i p may h = refl
 
 -- the tag that a sequencer waits for then
-pub given-fits : (place : Place) (push : List ℕ) (x made : ℕ) (i : Item) (p : Part) → list_any (same_item i) (part_candidates place push x p) ≡ true → is_counted made p ≡ true → made ≤ 18446744073709551615 → tag_after place.kind p < 2 ^ 64
+pub given-fits : (place : Place) (push : List ℕ) (x made i : ℕ) (p : Part) → list_any (is_numbered i) (part_candidates place push x p) ≡ true → is_counted made p ≡ true → made ≤ 18446744073709551615 → tag_after place.kind p < 2 ^ 64
 given-fits place push x made i (store_part s) may h most =
     let few = leb-true (s.next + length s.items) made (and_right (is_new made s.items) _ h) in
-    let less = length-dropped (is_numbered i.id.no) s.items (stored place.kind s i may) in
+    let less = length-dropped (is_numbered i) s.items (stored place.kind s i may) in
     let up = next-up place.kind s.next in
     omega (arith, few, less, up, most)
 given-fits place push x made i p may h most = omega arith

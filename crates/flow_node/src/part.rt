@@ -4,7 +4,6 @@ ghost use Rattle.std.specs.Prelude.{◌≡◌, is_some, ℕ, List, ◌<◌, ◌�
 ghost use Rattle.std.specs.List.{list_any, list_all, find};
 ghost use Rattle.std.specs.Option.{option_copied, option_map};
 ghost use Rattle.flow_item.specs.Lists.{first, is_empty};
-ghost use Rattle.flow_item.specs.Values.{same_item};
 ghost use Rattle.flow_shape.specs.Kinds.{is_discarding};
 ghost use Rattle.flow_machine.specs.State.{casts_of, start_part, offer};
 ghost use Rattle.flow_machine.specs.Offers.{next_tuple, candidates, room, offer_end};
@@ -364,15 +363,15 @@ impl Part {
         }
     }
 
-    /// The item goes over an out edge.
-    pub(crate) fn give(&mut self, base: &Base, edge: u32, item: &Item)
+    /// The item of this number goes over an out edge.
+    pub(crate) fn give(&mut self, base: &Base, edge: u32, no: u64)
         requires whole { is_whole base.now.outs.items self.old ≡ true }
         requires fits { tag_after (kind_of self.old) (part_of self.old) < 2 ^ 64 }
-        requires allowed { list_any (same_item item.now) (candidates (place_of base.now self.old) (state_of base.now self.old) edge) ≡ true }
-        ensures { Steps base.now.outs.items self.old self.new (part_after_give (kind_of self.old) (part_of self.old) edge item.now.id.no) (coming_of self.old) }
+        requires allowed { list_any (is_numbered no) (candidates (place_of base.now self.old) (state_of base.now self.old) edge) ≡ true }
+        ensures { Steps base.now.outs.items self.old self.new (part_after_give (kind_of self.old) (part_of self.old) edge no) (coming_of self.old) }
     {
         match self {
-            Part::Store(store) => store.give(edge, item.id.no),
+            Part::Store(store) => store.give(edge, no),
             Part::Function(function) => function.give(base, edge),
             Part::Join(join) => join.give(base, edge),
         }

@@ -68,7 +68,7 @@ fn put<B: Naming, R: Wait>(
     requires caller { Calls book.now.run book.now.items book.now.events c.old }
     ensures { Calls book.now.run book.now.items book.now.events c.new }
 {
-    match book.put(alloc, rt, c, 0, 0, 0, &Val::Int(5), &NoGate) {
+    match book.put(rt, alloc, c, 0, 0, 0, &Val::Int(5), &NoGate) {
         Ok(answer) => Ok(answer),
         Err(stop) => Err(stop),
     }
@@ -136,7 +136,7 @@ fn serve<B: Naming, R: Wait + Abort>(
     requires worker { Works book.now.run book.now.items book.now.events w.old }
     ensures { Works book.now.run book.now.items book.now.events w.new }
 {
-    let Ok(did) = book.serve(alloc, rt, w, 0, &NoGate) else {
+    let Ok(did) = book.serve(rt, alloc, w, 0, &NoGate) else {
         panic!(rt; "an event was stopped")
     };
     match did {
@@ -157,7 +157,7 @@ fn start<B: Naming, R: Wait + Abort>(
     requires worker { Works book.now.run book.now.items book.now.events w.old }
     ensures { RunsOn book.now.run book.now.items book.now.events w.new result }
 {
-    let Ok(did) = book.serve(alloc, rt, w, 0, &NoGate) else {
+    let Ok(did) = book.serve(rt, alloc, w, 0, &NoGate) else {
         panic!(rt; "an event was stopped")
     };
     match did {
@@ -206,7 +206,7 @@ fn finish<B: Naming, R: Wait + Abort>(
     }
     let mut outs = Outs::new(alloc);
     assert!(rt; outs.push(alloc, 0, 0, Val::Int(6)).is_ok());
-    match book.finish(alloc, rt, w, job, outs, &NoGate) {
+    match book.finish(rt, alloc, w, job, outs, &NoGate) {
         Ok(()) => {}
         Err(_) => panic!(rt; "an end was stopped"),
     }
@@ -233,7 +233,7 @@ fn bring_back<B: Naming, R: Wait + Abort>(
             val: Val::Int(5),
         },
     };
-    let Ok(took) = book.back(alloc, rt, w, &ask, Outs::new(alloc), &NoGate) else {
+    let Ok(took) = book.back(rt, alloc, w, &ask, Outs::new(alloc), &NoGate) else {
         panic!(rt; "an answer was stopped")
     };
     match took {

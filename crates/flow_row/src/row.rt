@@ -51,8 +51,8 @@ impl<B: Naming> Pair<B> {
     // Puts 5 to the first queue. Whether it was accepted or refused by the queue.
     fn put<R: Wait>(&mut self, rt: &R, alloc: Global, row: &Row<B>, tag: u64) -> bool {
         match row.book.put(
-            alloc,
             rt,
+            alloc,
             &mut self.caller,
             0,
             0,
@@ -122,7 +122,7 @@ fn serve<B: Naming, R: Wait>(
     requires node { node < 2 }
     ensures { IsWorker w.new }
 {
-    match row.book.serve(alloc, rt, w, node, &NoGate) {
+    match row.book.serve(rt, alloc, w, node, &NoGate) {
         Ok(did) => {
             match did {
                 Did::Event { .. } => true,

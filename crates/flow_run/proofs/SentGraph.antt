@@ -2,8 +2,8 @@
 use denote.RattleType.{RattleType}
 use denote.Ref.{NamedLft}
 use denote.Param.Send.{IsSend, IsSync, sendable}
-use denote.Param.SendFields.{declared_sync}
-use Rattle.std.proofs.Crossing.{crosses}
+use denote.Param.SendFields.{declared_sync, as_row_sync}
+use Rattle.std.proofs.Crossing.{crosses, Vec-sync}
 use Rattle.flow_item.proofs.val.Val.TheLaws.TheKnot as knot
 use Rattle.flow_item.proofs.items.Items.TheSendSync as items
 use Rattle.flow_item.proofs.val.Text.TheSendSync as text
@@ -14,7 +14,12 @@ use Rattle.flow_line.specs.declared.naming.Naming
 use Rattle.flow_pool.proofs.pool.Pool.TheSendSync as pool
 use Rattle.flow_crew.proofs.bodies.Bench.TheSendSync as bench
 use Rattle.flow_crew.proofs.bell.Bell.TheSendSync as bell
+use Rattle.flow_crew.proofs.mark.Mark.TheSendSync as mark
+use Rattle.flow_crew.specs.contracts.mark.Mark as Mark
 use Rattle.flow_crew.specs.contracts.graph.Graph as Graph
+use Rattle.std.specs.contracts.vec.Vec as Vec
+use Rattle.std.specs.contracts.alloc.Global as Global
+use Rattle.std.specs.contracts.impls.GlobalAllocator.TheImpl.{ghosts}
 use Rattle.flow_run.proofs.Sent.{kind-sync}
 use Rattle.flow_run.proofs.SentBook.{book-sync}
 
@@ -38,7 +43,10 @@ module _ (a : NamedLft) (S G B : RattleType) (b : _) (n : Naming.Ghosts B.Denot)
             search (z, sendable) depth 20,
             (
               search (bell.the_sync, sendable) depth 20,
-              (search sendable, tt),
+              (
+                as_row_sync (Vec.the_field Mark.the_row Global.the_row ghosts) (Vec-sync Mark.the_row mark.the_sync),
+                (search sendable, tt),
+              ),
             ),
           ),
         ),

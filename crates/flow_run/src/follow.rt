@@ -21,8 +21,8 @@ use std::sync::Wait;
 
 // Puts a value.
 fn put<B: Naming, R: Wait, S: Bodies, G: Gate>(
-    alloc: Global,
     rt: &R,
+    alloc: Global,
     graph: &Graph<S, G, B>,
     caller: &mut Caller<B>,
     node: u32,
@@ -44,7 +44,7 @@ fn put<B: Naming, R: Wait, S: Bodies, G: Gate>(
     ensures done { OnOk result ((a : PutAnswer) × IsDone caller.old.chair (E.Put (number_of caller.old.chair.party) node port tag val.now a) caller.new.chair) }
     ensures stopped { OnErr result (StopsBy (λ e. (a : PutAnswer) × (e ≡ E.Put (number_of caller.old.chair.party) node port tag val.now a)) caller.old.chair caller.new.chair) }
 {
-    match caller.put(alloc, rt, graph, node, port, tag, val) {
+    match caller.put(rt, alloc, graph, node, port, tag, val) {
         Ok(_) => Ok(()),
         Err(stop) => Err(stop),
     }
@@ -52,7 +52,6 @@ fn put<B: Naming, R: Wait, S: Bodies, G: Gate>(
 
 // Starts an input.
 fn activate<B: Naming, R: Wait, S: Bodies, G: Gate>(
-    alloc: Global,
     rt: &R,
     graph: &Graph<S, G, B>,
     caller: &mut Caller<B>,
@@ -72,7 +71,7 @@ fn activate<B: Naming, R: Wait, S: Bodies, G: Gate>(
     ensures done { OnOk result (IsDone caller.old.chair (E.Act (number_of caller.old.chair.party) node) caller.new.chair) }
     ensures stopped { OnErr result (StopsBy (λ e. e ≡ E.Act (number_of caller.old.chair.party) node) caller.old.chair caller.new.chair) }
 {
-    match caller.activate(alloc, rt, graph, node) {
+    match caller.activate(rt, graph, node) {
         Ok(()) => Ok(()),
         Err(stop) => Err(stop),
     }
@@ -80,8 +79,8 @@ fn activate<B: Naming, R: Wait, S: Bodies, G: Gate>(
 
 // Waits until nothing is open.
 fn wait<B: Naming, R: Wait, S: Bodies, G: Gate>(
-    alloc: Global,
     rt: &R,
+    alloc: Global,
     graph: &Graph<S, G, B>,
     caller: &mut Caller<B>,
 ) -> Result<(), Stop>
@@ -97,7 +96,7 @@ fn wait<B: Naming, R: Wait, S: Bodies, G: Gate>(
     ensures same { IsSame caller.old.chair caller.new.chair }
     ensures done { OnOk result (open_after graph.now.book.run.shape caller.new.chair.seen ≡ 0) }
 {
-    match caller.wait_for_all(alloc, rt, graph) {
+    match caller.wait_for_all(rt, alloc, graph) {
         Waited::Quiet => Ok(()),
         Waited::Halted(stop) => Err(stop),
     }
@@ -105,8 +104,8 @@ fn wait<B: Naming, R: Wait, S: Bodies, G: Gate>(
 
 // Does a step.
 fn do_step<B: Naming, R: Wait, S: Bodies, G: Gate>(
-    alloc: Global,
     rt: &R,
+    alloc: Global,
     graph: &Graph<S, G, B>,
     caller: &mut Caller<B>,
     step: &Step,
@@ -131,17 +130,17 @@ fn do_step<B: Naming, R: Wait, S: Bodies, G: Gate>(
             port,
             tag,
             val,
-        } => put(alloc, rt, graph, caller, *node, *port, *tag, val),
-        Step::Act { node } => activate(alloc, rt, graph, caller, *node),
-        Step::Wait => wait(alloc, rt, graph, caller),
+        } => put(rt, alloc, graph, caller, *node, *port, *tag, val),
+        Step::Act { node } => activate(rt, graph, caller, *node),
+        Step::Wait => wait(rt, alloc, graph, caller),
         Step::Cancel => unreachable!(),
     }
 }
 
 // The next step of a script, and whether it was done.
 fn next_step<B: Naming, R: Wait, S: Bodies, G: Gate>(
-    alloc: Global,
     rt: &R,
+    alloc: Global,
     graph: &Graph<S, G, B>,
     caller: &mut Caller<B>,
     script: &Items<Step>,
@@ -165,7 +164,7 @@ fn next_step<B: Naming, R: Wait, S: Bodies, G: Gate>(
 {
     match script.get(at) {
         Some(step) => {
-            let did = do_step(alloc, rt, graph, caller, step);
+            let did = do_step(rt, alloc, graph, caller, step);
             let _ = caller.number(graph);
             match did {
                 Ok(()) => true,
@@ -203,8 +202,8 @@ fn leave<B: Naming, R: Wait, S: Bodies, G: Gate>(
 
 // Follows a script to its end, and then leaves, or to the first refusal.
 fn follow_script<B: Naming, R: Wait, S: Bodies, G: Gate>(
-    alloc: Global,
     rt: &R,
+    alloc: Global,
     graph: &Graph<S, G, B>,
     caller: &mut Caller<B>,
     script: &Items<Step>,
@@ -223,7 +222,7 @@ fn follow_script<B: Naming, R: Wait, S: Bodies, G: Gate>(
 {
     let mut at = 0;
     'steps: while at < script.len() {
-        if !next_step(alloc, rt, graph, caller, script, at) {
+        if !next_step(rt, alloc, graph, caller, script, at) {
             return;
         }
         at += 1;
@@ -233,8 +232,8 @@ fn follow_script<B: Naming, R: Wait, S: Bodies, G: Gate>(
 
 /// A caller follows its script of the document.
 pub(crate) fn follow<B: Naming, R: Wait, S: Bodies, G: Gate>(
-    alloc: Global,
     rt: &R,
+    alloc: Global,
     graph: &Graph<S, G, B>,
     caller: &mut Caller<B>,
     doc: &Doc,
@@ -252,7 +251,7 @@ pub(crate) fn follow<B: Naming, R: Wait, S: Bodies, G: Gate>(
     ensures followed { FollowsOwn graph.now.book.run.shape doc.now.scripts caller.new.chair }
 {
     match doc.scripts.get(caller.number(graph) as usize) {
-        Some(script) => follow_script(alloc, rt, graph, caller, script),
+        Some(script) => follow_script(rt, alloc, graph, caller, script),
         None => unreachable!(),
     }
 }

@@ -6,7 +6,7 @@ mod follow;
 mod run;
 
 pub use flow_crew::{Bodies, Builtin, Gate, NoGate, Point};
-pub use run::run_all;
+pub use run::{run_all, run_all_with_nodes};
 
 #[cfg(test)]
 mod tests;

@@ -12,8 +12,11 @@ ghost use Rattle.flow_laws.specs.Moments.{IsWithinLimits, AtEachStart, EdgesAgre
 ghost use Rattle.flow_book.specs.Callers.{may_call};
 ghost use Rattle.flow_book.specs.Opening.{callers_of, workers_of};
 ghost use Rattle.flow_shape.specs.Rules.{IsValid};
+ghost use Rattle.flow_work.specs.Plain.{AreNodesAfter};
 ghost use Rattle.flow_work.specs.Promises.{FollowsScripts, CompletesScripts, HeedsWaits, KeepsBodies, ItemsHaveOneFate, ItemsHaveLineages, HoldsReserve, NothingIsHeld, ParentsWereBorn, IsFresh, SameDocument, is_limit};
+ghost use Rattle.flow_work.specs.Results.{KeepsMeaning};
 ghost use Rattle.flow_work.specs.Runs.{is_good_step};
+ghost use Rattle.flow_crew.specs.Bodies.{AnswersOnce};
 ghost use Rattle.flow_crew.specs.Crew.{IsCaller, IsWorker};
 ghost use Rattle.flow_run.specs.Following.{FollowsOwn, IsNew};
 ghost use Rattle.flow_run.specs.Refusals.{IsRefusedWithin};
@@ -26,6 +29,7 @@ use flow_crew::{Bodies, Caller, Gate, Graph, Parts, Waited, Worker};
 use flow_doc::{Doc, Kept};
 use flow_item::{Event, Journal, NoMemory, Stop};
 use flow_line::{Naming, Opened};
+use flow_nodes::Nodes;
 use std::alloc::Global;
 use std::marker::Brand;
 use std::sync::Wait;
@@ -61,14 +65,14 @@ fn follow_all<B: Naming + Send + Sync, R: Threads + Wait + Sync, S: Bodies, G: G
             requires scripts { (site.now.graph.now.book.run.callers ≡ length site.now.doc.now.scripts) × (list_all (list_all (is_good_step site.now.graph.now.book.run.shape)) site.now.doc.now.scripts ≡ true) }
             ensures followed { IsCaller (S.meanings site.entry.now.graph.now.bench.bodies.now) site.entry.now.graph.now.book.run site.entry.now.graph.now.book.items site.entry.now.graph.now.book.events caller.new.chair × IsWorker (S.meanings site.entry.now.graph.now.bench.bodies.now) site.entry.now.graph.now.book.run site.entry.now.graph.now.book.items site.entry.now.graph.now.book.events caller.new.worker.chair caller.new.worker.busy × FollowsOwn site.entry.now.graph.now.book.run.shape site.entry.now.doc.now.scripts caller.new.chair }
             ensures party { (caller.new.chair.party ≡ caller.old.chair.party) × (caller.new.worker.chair.party ≡ caller.old.worker.chair.party) }
-        { follow(site.alloc, site.rt, site.graph, caller, site.doc) },
+        { follow(site.rt, site.alloc, site.graph, caller, site.doc) },
     );
 }
 
 // A worker works until all have left and nothing is open, or something is refused.
 fn work<B: Naming, R: Wait, S: Bodies, G: Gate>(
-    alloc: Global,
     rt: &R,
+    alloc: Global,
     graph: &Graph<S, G, B>,
     worker: &mut Worker<B>,
 )
@@ -78,7 +82,7 @@ fn work<B: Naming, R: Wait, S: Bodies, G: Gate>(
     ensures post { IsPostOf graph.now.pool worker.new.post }
     ensures party { worker.new.chair.party ≡ worker.old.chair.party }
 {
-    let _ = worker.run(alloc, rt, graph);
+    let _ = worker.run(rt, alloc, graph);
 }
 
 // All workers work, each in a thread of its own where one can be made.
@@ -98,7 +102,7 @@ fn work_all<B: Naming + Send + Sync, R: Threads + Wait + Sync, S: Bodies, G: Gat
             requires { IsWorker (S.meanings site.now.graph.now.bench.bodies.now) site.now.graph.now.book.run site.now.graph.now.book.items site.now.graph.now.book.events worker.old.chair worker.old.busy × IsPostOf site.now.graph.now.pool worker.old.post }
             ensures worked { IsWorker (S.meanings site.entry.now.graph.now.bench.bodies.now) site.entry.now.graph.now.book.run site.entry.now.graph.now.book.items site.entry.now.graph.now.book.events worker.new.chair worker.new.busy × IsPostOf site.entry.now.graph.now.pool worker.new.post }
             ensures party { worker.new.chair.party ≡ worker.old.chair.party }
-        { work(site.alloc, site.rt, site.graph, worker) },
+        { work(site.rt, site.alloc, site.graph, worker) },
     );
 }
 
@@ -150,8 +154,8 @@ fn run_parts<B: Naming + Send + Sync, R: Threads + Wait + Sync, S: Bodies, G: Ga
     ensures worker_parties { map (λ w. w.chair.party) workers.new ≡ map (λ w. w.chair.party) workers.old }
 {
     let site = Site {
-        alloc,
         rt,
+        alloc,
         doc,
         graph,
     };
@@ -180,13 +184,24 @@ fn is_done<B: Naming, R: Wait, S: Bodies, G: Gate>(
     }
 }
 
-// Runs a graph to its end and closes it. Whether all did their share, and nothing was refused.
+// What a run leaves.
+#[derive(Drop)]
+struct Ran {
+    journal: Journal,
+    refused: Option<Event>,
+    // Whether all did their share, and nothing was refused.
+    done: bool,
+    // The nodes after the journal, where there was memory for them.
+    nodes: Option<Nodes>,
+}
+
+// Runs a graph to its end and closes it.
 fn run_to_end<B: Naming + Send + Sync, R: Threads + Wait + Sync, S: Bodies, G: Gate>(
     rt: &R,
     alloc: Global,
     doc: &Doc,
     parts: Parts<S, G, B>,
-) -> (Journal, Option<Event>, bool)
+) -> Ran
     requires valid { IsValid parts.graph.book.run.shape }
     requires small { parts.graph.book.items < 2 ^ 62 }
     requires scripts { (parts.graph.book.run.callers ≡ length doc.now.scripts) × (list_all (list_all (is_good_step parts.graph.book.run.shape)) doc.now.scripts ≡ true) }
@@ -197,7 +212,10 @@ fn run_to_end<B: Naming + Send + Sync, R: Threads + Wait + Sync, S: Bodies, G: G
     requires hired { All (λ w. IsWorker (S.meanings parts.graph.bench.bodies.now) parts.graph.book.run parts.graph.book.items parts.graph.book.events w.chair w.busy × IsPostOf parts.graph.pool w.post) parts.workers.items }
     requires empty { (parts.seats.callers.items ≡ []) × (parts.seats.workers.items ≡ []) }
     requires room { (length parts.callers.items ≤ parts.seats.callers.spare) × (length parts.workers.items + length parts.callers.items ≤ parts.seats.workers.spare) }
-    ensures { IsRunOf (S.meanings parts.entry.graph.bench.bodies.now) parts.entry.graph.book.run.shape doc.now.scripts parts.entry.graph.book.run.workers parts.entry.graph.book.items parts.entry.graph.book.events result.0 result.1 result.2 }
+    ensures run { IsRunOf (S.meanings parts.entry.graph.bench.bodies.now) parts.entry.graph.book.run.shape doc.now.scripts parts.entry.graph.book.run.workers parts.entry.graph.book.items parts.entry.graph.book.events result.journal result.refused result.done }
+    ensures nodes { IfSome
+        result.nodes
+        (AreNodesAfter parts.entry.graph.book.run.shape result.journal) }
 {
     let Parts {
         graph,
@@ -220,8 +238,13 @@ fn run_to_end<B: Naming + Send + Sync, R: Threads + Wait + Sync, S: Bodies, G: G
         workers,
         seats,
     };
-    let (journal, refused) = parts.close();
-    (journal, refused, done)
+    let (journal, refused, nodes) = parts.close_with_nodes(alloc);
+    Ran {
+        journal,
+        refused,
+        done,
+        nodes,
+    }
 }
 
 // Runs a document under a name of its own.
@@ -235,14 +258,17 @@ fn run_named<B: Naming + Send + Sync, R: Threads + Wait + Sync, S: Bodies, G: Ga
     items: u64,
     events: u64,
     opened: Opened<GraphMachine>,
-) -> Result<(Journal, Option<Event>, bool), NoMemory>
+) -> Result<Ran, NoMemory>
     requires name { opened ≡ B.table }
     requires fits { doc_fits (S.count bodies.now) doc.now ≡ true }
     requires built { list_all is_built doc.now.shape.nodes ≡ true }
     requires version { doc.now.version < 3 }
     requires workers { (0 < workers) × (workers ≤ 64) }
     requires limits { (items < 2 ^ 62) × (events < 2 ^ 62) }
-    ensures { IfOk result (λ r. IsRunOf (S.meanings bodies.now) doc.now.shape doc.now.scripts (workers + length doc.now.scripts) items events r.0 r.1 r.2) }
+    ensures run { IfOk result (λ r. IsRunOf (S.meanings bodies.now) doc.now.shape doc.now.scripts (workers + length doc.now.scripts) items events r.journal r.refused r.done) }
+    ensures nodes { IfOk
+        result
+        (λ r. IfSome r.nodes (AreNodesAfter doc.now.shape r.journal)) }
 {
     let parts = Graph::<S, G, B>::new(alloc, doc, bodies, gate, workers, items, events, opened)?;
     let ran = run_to_end(rt, alloc, doc, parts);
@@ -260,7 +286,7 @@ fn answer_of(refused: &Option<Event>, done: bool) -> Result<(), Stop>
     }
 }
 
-// Runs a document, and keeps the journal and the event that was refused.
+// Runs a document, and keeps the journal and the event that was refused. The nodes are handed on.
 fn run_kept<R: Threads + Wait + Sync, S: Bodies, G: Gate>(
     rt: &R,
     alloc: Global,
@@ -271,7 +297,7 @@ fn run_kept<R: Threads + Wait + Sync, S: Bodies, G: Gate>(
     items: u64,
     events: u64,
     kept: &mut Kept,
-) -> Result<(), Stop>
+) -> (Result<(), Stop>, Option<Nodes>)
     requires fits { doc_fits (S.count bodies.now) doc.now ≡ true }
     requires built { list_all is_built doc.now.shape.nodes ≡ true }
     requires version { doc.now.version < 3 }
@@ -279,24 +305,88 @@ fn run_kept<R: Threads + Wait + Sync, S: Bodies, G: Gate>(
     requires limits { (items < 2 ^ 62) × (events < 2 ^ 62) }
     requires fresh { IsFresh kept.old }
     ensures document { SameDocument kept.old kept.new }
-    ensures run { IsRunOf (S.meanings bodies.now) doc.now.shape doc.now.scripts (workers + length doc.now.scripts) items events kept.new.journal kept.new.refused (is_ok result) }
+    ensures run { IsRunOf (S.meanings bodies.now) doc.now.shape doc.now.scripts (workers + length doc.now.scripts) items events kept.new.journal kept.new.refused (is_ok result.0) }
     ensures births { births kept.new.journal ≤ 2 ^ 63 }
-    ensures limit { is_some kept.new.refused ≡ is_limit result }
+    ensures limit { is_some kept.new.refused ≡ is_limit result.0 }
+    ensures nodes { IfSome result.1 (AreNodesAfter doc.now.shape kept.new.journal) }
 {
     let Ok(opened) = Opened::<GraphMachine>::new(alloc) else {
-        return Err(Stop::Memory);
+        return (Err(Stop::Memory), None);
     };
     match run_named::<Brand, R, S, G>(
         rt, alloc, doc, bodies, gate, workers, items, events, opened,
     ) {
-        Ok((journal, refused, done)) => {
+        Ok(ran) => {
+            let Ran {
+                journal,
+                refused,
+                done,
+                nodes,
+            } = ran;
             tell_few(&journal, items, events);
             kept.journal = journal;
             kept.refused = refused;
-            answer_of(&kept.refused, done)
+            (answer_of(&kept.refused, done), nodes)
         }
-        Err(_) => Err(Stop::Memory),
+        Err(_) => (Err(Stop::Memory), None),
     }
+}
+
+/// As `run_all`, and hands on the nodes as the run leaves them, so that what they keep is read without a replay. Only for
+/// want of memory there are none.
+pub fn run_all_with_nodes<R: Threads + Wait + Sync, S: Bodies, G: Gate>(
+    rt: &R,
+    alloc: Global,
+    doc: &Doc,
+    bodies: &S,
+    gate: &G,
+    workers: u32,
+    items: u64,
+    events: u64,
+    kept: &mut Kept,
+) -> (Result<(), Stop>, Option<Nodes>)
+    requires fits { doc_fits (S.count bodies.now) doc.now ≡ true }
+    requires built { list_all is_built doc.now.shape.nodes ≡ true }
+    requires version { doc.now.version < 3 }
+    requires workers { (0 < workers) × (workers ≤ 64) }
+    requires limits { (items < 2 ^ 62) × (events < 2 ^ 62) }
+    requires fresh { IsFresh kept.old }
+    ensures document { SameDocument kept.old kept.new }
+    ensures legal_run { is_run doc.now.shape (length doc.now.scripts) (workers + length doc.now.scripts) kept.new.journal ≡ true }
+    ensures scripts { FollowsScripts doc.now.shape doc.now.scripts kept.new.journal }
+    ensures complete { OnOk
+        result.0
+        (CompletesScripts doc.now.shape doc.now.scripts kept.new.journal) }
+    ensures waits { HeedsWaits doc.now.shape doc.now.scripts kept.new.journal }
+    ensures bodies { KeepsBodies (S.meanings bodies.now) doc.now.shape kept.new.journal }
+    ensures limits { IsWithinLimits items events kept.new.journal }
+    ensures births { births kept.new.journal ≤ 2 ^ 63 }
+    ensures edges { AtEachStart (EdgesAgree doc.now.shape) kept.new.journal }
+    ensures holds { AtEachStart (HoldsAgree doc.now.shape) kept.new.journal }
+    ensures node_limits { AtEachStart (NodesWithinLimits doc.now.shape) kept.new.journal }
+    ensures ledger { AtEachStart (LedgerAddsUp doc.now.shape) kept.new.journal }
+    ensures fates { AtEachStart (ItemsHaveOneFate doc.now.shape) kept.new.journal }
+    ensures lineages { AtEachStart (ItemsHaveLineages doc.now.shape) kept.new.journal }
+    ensures reservations { HoldsReserve doc.now.shape kept.new.journal }
+    ensures settled { OnOk result.0 (IsSettled doc.now.shape kept.new.journal) }
+    ensures released { OnOk result.0 (NothingIsHeld doc.now.shape kept.new.journal) }
+    ensures parents { OnOk result.0 (ParentsWereBorn doc.now.shape kept.new.journal) }
+    ensures meaning { OnOk result.0 (KeepsMeaning (S.meanings bodies.now) doc.now kept.new.journal) }
+    ensures refused { IfSome
+        kept.new.refused
+        (IsRefusedWithin (S.meanings bodies.now) doc.now.shape doc.now.scripts (workers + length doc.now.scripts) items events kept.new.journal) }
+    ensures limit { is_some kept.new.refused ≡ is_limit result.0 }
+    ensures nodes { IfSome result.1 (AreNodesAfter doc.now.shape kept.new.journal) }
+{
+    answer_once(bodies);
+    run_kept(rt, alloc, doc, bodies, gate, workers, items, events, kept)
+}
+
+// A body that is pure and single answers one message.
+fn answer_once<S: Bodies>(bodies: &S)
+    ensures { AnswersOnce (S.meanings bodies.now) }
+{
+    let _ = bodies;
 }
 
 /// Runs a document on threads, to the end, to a limit or to want of memory: its callers follow their scripts, and so many
@@ -339,10 +429,14 @@ pub fn run_all<R: Threads + Wait + Sync, S: Bodies, G: Gate>(
     ensures settled { OnOk result (IsSettled doc.now.shape kept.new.journal) }
     ensures released { OnOk result (NothingIsHeld doc.now.shape kept.new.journal) }
     ensures parents { OnOk result (ParentsWereBorn doc.now.shape kept.new.journal) }
+    ensures meaning { OnOk result (KeepsMeaning (S.meanings bodies.now) doc.now kept.new.journal) }
     ensures refused { IfSome
         kept.new.refused
         (IsRefusedWithin (S.meanings bodies.now) doc.now.shape doc.now.scripts (workers + length doc.now.scripts) items events kept.new.journal) }
     ensures limit { is_some kept.new.refused ≡ is_limit result }
 {
-    run_kept(rt, alloc, doc, bodies, gate, workers, items, events, kept)
+    let (ended, _nodes) = run_all_with_nodes(
+        rt, alloc, doc, bodies, gate, workers, items, events, kept,
+    );
+    ended
 }

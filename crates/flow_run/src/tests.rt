@@ -101,3 +101,19 @@ fn a_limit_of_one_item(rt: HostRuntime) -> Result<(), Fail> {
     assert!(rt; kept.refused.is_some());
     Ok(())
 }
+
+// The queue of two items is handed on as the run leaves it.
+#[test]
+fn the_nodes_as_a_run_leaves_them(rt: HostRuntime) -> Result<(), Fail> {
+    let alloc = rt.alloc();
+    let doc = function_into_queue(alloc)?;
+    let mut kept = Kept::new(alloc);
+    let (ran, nodes) = run_all_with_nodes(
+        &rt, alloc, &doc, &Builtin, &NoGate, 2, 100, 1000, &mut kept,
+    );
+    assert!(rt; ran.is_ok());
+    let nodes = nodes.ok_or("no nodes")?;
+    assert_eq!(rt; nodes.find(Some(1)).map(|node| node.made()), Some(2));
+    assert!(rt; nodes.find(Some(2)).is_none());
+    Ok(())
+}

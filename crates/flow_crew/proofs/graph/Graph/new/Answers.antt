@@ -38,6 +38,7 @@ invariant_of-graph g c =
       scripted = count ∙ c.len-count.ensures;
       counted = sym count;
       pooled = c.in_ok-pool.ensures.0 ∙ (c.len-nodes.ensures ∙ sym nodes);
+      marked = c.in_ok-marks.ensures ∙ (c.len-nodes.ensures ∙ sym nodes);
       built = c.in_ok-book.book.built;
       shelved = (λ i. list_all (kind_fits (c.of.ensures.count i)) ((shape i).nodes)) ∙ fits;
     }

@@ -1,3 +1,5 @@
+use Rattle.std.proofs.Common.{sym, subst}
+use Rattle.flow_crew.specs.Crew.{HasWorked}
 use Rattle.flow_crew.proofs.Seen.{ended-later}
 use Rattle.flow_crew.proofs.Works.{worker-keeps, worker-same, worked-kept, worked-on}
 use Rattle.flow_crew.proofs.worker.Worker.round.Goals as goal
@@ -21,4 +23,6 @@ returns-in-Some-clause-ended g c =
     ended-later c.args.graph.now.book.run c.args.self.now.chair c.turn.new.self.chair c.asks.new.self.chair c.in-Some.waited c.in-Idle.ensures.worked c.in-Some.ensures.ended
 
 pub returns-in-None-clause-worked : goal.returns-in-None-clause-worked
-returns-in-None-clause-worked g c = worked-on c.args.self.now.chair c.turn.new.self.chair c.asks.new.self.chair c.in-Idle.ensures.worked c.in-None.ensures.worked
+returns-in-None-clause-worked g c =
+    subst (λ d. HasWorked c.args.self.now.chair d) (sym c.sleep.ensures.0)
+    (worked-on c.args.self.now.chair c.turn.new.self.chair c.asks.new.self.chair c.in-Idle.ensures.worked c.in-None.ensures.worked)

@@ -1,4 +1,4 @@
-use Rattle.flow_node.proofs.NodeLemmas.{offer-lands, offer-bars}
+use Rattle.flow_node.proofs.NodeLemmas.{offer-lands}
 use Rattle.flow_node.proofs.node.NodeState.answer_offer.Goals as goal
 
 pub returns-in-Ok : goal.returns-in-Ok

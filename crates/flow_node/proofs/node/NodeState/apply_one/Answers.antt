@@ -1,8 +1,7 @@
-use Rattle.flow_node.proofs.NodeLemmas.{put-comes}
 use Rattle.flow_node.proofs.node.NodeState.apply_one.Goals as goal
 
-pub come-requires-clause-lands : goal.come-requires-clause-lands
-come-requires-clause-lands c =
-    let put = rw (c.in-Put.is) at c.requires.allowed in
-    let allowed = rw (c.in-Accepted.is) at put in
-    rw (c.take_incoming-val.ensures.same) (put-comes c.args.self.now.node c.in-Put.caller c.in-Put.node c.in-Put.port c.in-Put.tag c.in-Put.val c.in-Accepted.no c.in-Accepted.land allowed)
+pub change_one-requires : goal.change_one-requires
+change_one-requires c = (c.args.e.now, record { change = c.of.ensures; alone = c.requires.alone; party = c.requires.party; allowed = c.requires.allowed; prepared = c.requires.prepared })
+
+pub returns : goal.returns
+returns c = c.change_one.ensures c.args.e.now record { change = c.of.ensures; alone = c.requires.alone; party = c.requires.party; allowed = c.requires.allowed; prepared = c.requires.prepared }

@@ -1,10 +1,10 @@
-use Rattle.std.proofs.Common.{ap}
-use Rattle.flow_node.specs.Readied.{Readied}
-use Rattle.flow_node.proofs.NodeLemmas.{met-there}
 use Rattle.flow_node.proofs.node.NodeState.apply_two.Goals as goal
 
-pub apply_from-given-requires-clause-met : goal.apply_from-given-requires-clause-met
-apply_from-given-requires-clause-met c = met-there c.other.inside.base c.other.inside.part (ap (λ (r : Readied). r.node) c.other.view_is) c.other.invariant c.args.e.now c.args.self.now.node.place.node c.requires.ends c.requires.other_allowed
+pub change_two-requires : goal.change_two-requires
+change_two-requires c = (c.args.e.now, record { change = c.of.ensures; ends = c.requires.ends; allowed = c.requires.allowed; other_allowed = c.requires.other_allowed; prepared = c.requires.prepared; other_prepared = c.requires.other_prepared })
 
-pub apply_to-requires-clause-met : goal.apply_to-requires-clause-met
-apply_to-requires-clause-met c = met-there c.other.inside.base c.other.inside.part (ap (λ (r : Readied). r.node) c.other.view_is) c.other.invariant c.args.e.now c.args.self.now.node.place.node c.requires.ends c.requires.other_allowed
+pub returns-clause-node : goal.returns-clause-node
+returns-clause-node c = c.change_two.ensures.node c.args.e.now record { change = c.of.ensures; ends = c.requires.ends; allowed = c.requires.allowed; other_allowed = c.requires.other_allowed; prepared = c.requires.prepared; other_prepared = c.requires.other_prepared }
+
+pub returns-clause-other : goal.returns-clause-other
+returns-clause-other c = c.change_two.ensures.other c.args.e.now record { change = c.of.ensures; ends = c.requires.ends; allowed = c.requires.allowed; other_allowed = c.requires.other_allowed; prepared = c.requires.prepared; other_prepared = c.requires.other_prepared }
