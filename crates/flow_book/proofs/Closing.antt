@@ -9,8 +9,11 @@ use Rattle.flow_item.specs.Legal as legal
 use Rattle.flow_item.proofs.Tests.{and_left}
 use Rattle.flow_shape.specs.declared.Shape.{Shape}
 use Rattle.flow_shape.specs.Rules.{IsValid}
-use Rattle.flow_machine.specs.Machine.{is_leave, is_legal, is_of_run, is_run}
+use Rattle.flow_machine.specs.Machine.{is_leave, is_legal, is_of_run, is_run, open_after}
+use Rattle.flow_machine.specs.Settled.{IsSettled}
 use Rattle.flow_laws.specs.Moments.{IsWithinLimits, AtEachStart, EdgesAgree, HoldsAgree, NodesWithinLimits, LedgerAddsUp}
+use Rattle.flow_fates.specs.Facts.{ItemsHaveOneFate, ItemsHaveLineages, HoldsReserve, NothingIsHeld, ParentsWereBorn}
+use Rattle.flow_fates.proofs.Facts.{one-fate-each, lineages-each, holds-reserve, closed-is-settled, closed-holds-nothing, parents-were-born}
 use Rattle.flow_laws.proofs.EdgeStates.{modes-agree}
 use Rattle.flow_laws.proofs.HoldsMatch.{holds-match}
 use Rattle.flow_laws.proofs.HoldsTwoForms.{holds-twice}
@@ -94,6 +97,12 @@ pub record IsClosed (run : Run) (items events : ℕ) (es : List Event) (seats : 
   pub holds : AtEachStart (HoldsAgree run.shape) es
   pub node_limits : AtEachStart (NodesWithinLimits run.shape) es
   pub ledger : AtEachStart (LedgerAddsUp run.shape) es
+  pub fates : AtEachStart (ItemsHaveOneFate run.shape) es
+  pub lineages : AtEachStart (ItemsHaveLineages run.shape) es
+  pub reservations : HoldsReserve run.shape es
+  pub settled : open_after run.shape es ≡ 0 → IsSettled run.shape es
+  pub released : open_after run.shape es ≡ 0 → NothingIsHeld run.shape es
+  pub parents : open_after run.shape es ≡ 0 → ParentsWereBorn run.shape es
 
 module _ (run : Run) (items events : ℕ) (es : List Event) (seats : List (Sitting Event Run)) (valid : IsValid run.shape) where
   -- what the laws tell of it
@@ -109,10 +118,19 @@ module _ (run : Run) (items events : ℕ) (es : List Event) (seats : List (Sitti
       each = adds-up run.shape before later valid (start-legal before later same);
       all = births-come run.shape before later valid (start-legal before later same);
     };
+    fates = one-fate-each run.shape es valid legal;
+    lineages = lineages-each run.shape es valid legal;
+    reservations = holds-reserve run.shape es valid legal;
+    settled = closed-is-settled run.shape es valid legal;
+    released = closed-holds-nothing run.shape es valid legal;
+    parents = λ none. parents-were-born run.shape es valid legal (closed-is-settled run.shape es valid legal none);
   }
     where
+      legal : is_legal run.shape es ≡ true
+      legal = and_left (is_legal run.shape es) (list_all (is_of_run run.shape run.callers run.workers) es) is
+
       start-legal : (before later : List Event) → es ≡ before ++ later → is_legal run.shape (before ++ later) ≡ true
-      start-legal before later same = subst (λ es. is_legal run.shape es ≡ true) same (and_left (is_legal run.shape es) (list_all (is_of_run run.shape run.callers run.workers) es) is)
+      start-legal before later same = subst (λ es. is_legal run.shape es ≡ true) same legal
 
 -- a closed line of the run, from whose chairs the first kept event was taken
 pub closed : (run : Run) (items events : ℕ) (es log : List Event) (left seats : List (Sitting Event Run)) → IsValid run.shape → es ≡ log → left ≡ without_first_kept seats

@@ -1,8 +1,10 @@
 //! The end of a run.
 ghost use Rattle.std.specs.Prelude.{◌≡◌, ◌<◌, ◌++◌, true, length, map, vec_len, All, IfOk, IfSome};
 ghost use Rattle.flow_item.specs.Events.{parties_of};
-ghost use Rattle.flow_machine.specs.Machine.{is_run};
+ghost use Rattle.flow_machine.specs.Machine.{is_run, open_after};
+ghost use Rattle.flow_machine.specs.Settled.{IsSettled};
 ghost use Rattle.flow_laws.specs.Moments.{IsWithinLimits, AtEachStart, EdgesAgree, HoldsAgree, NodesWithinLimits, LedgerAddsUp};
+ghost use Rattle.flow_fates.specs.Facts.{ItemsHaveOneFate, ItemsHaveLineages, HoldsReserve, NothingIsHeld, ParentsWereBorn};
 ghost use Rattle.flow_line.specs.Values.{IsPart};
 ghost use Rattle.flow_line.specs.Kept.{first_kept, without_first_kept};
 ghost use Rattle.flow_node.specs.Readied.{is_waiting};
@@ -90,6 +92,12 @@ impl<B: Naming> Book<B> {
         ensures holds { AtEachStart (HoldsAgree self.run.shape) result.0 }
         ensures node_limits { AtEachStart (NodesWithinLimits self.run.shape) result.0 }
         ensures ledger { AtEachStart (LedgerAddsUp self.run.shape) result.0 }
+        ensures fates { AtEachStart (ItemsHaveOneFate self.run.shape) result.0 }
+        ensures lineages { AtEachStart (ItemsHaveLineages self.run.shape) result.0 }
+        ensures reservations { HoldsReserve self.run.shape result.0 }
+        ensures settled { open_after self.run.shape result.0 ≡ 0 → IsSettled self.run.shape result.0 }
+        ensures released { open_after self.run.shape result.0 ≡ 0 → NothingIsHeld self.run.shape result.0 }
+        ensures parents { open_after self.run.shape result.0 ≡ 0 → ParentsWereBorn self.run.shape result.0 }
     {
         let Book { line, .. } = self;
         let Seats {
@@ -100,6 +108,7 @@ impl<B: Naming> Book<B> {
         let journal = line.close2(callers, workers);
         (Journal::of(journal), kept)
     }
+
     /// As `close`, and hands on the nodes after the journal, without a replay of it. Only for want of memory there are
     /// none.
     pub fn close_with_nodes(
@@ -117,6 +126,12 @@ impl<B: Naming> Book<B> {
         ensures holds { AtEachStart (HoldsAgree self.run.shape) result.0 }
         ensures node_limits { AtEachStart (NodesWithinLimits self.run.shape) result.0 }
         ensures ledger { AtEachStart (LedgerAddsUp self.run.shape) result.0 }
+        ensures fates { AtEachStart (ItemsHaveOneFate self.run.shape) result.0 }
+        ensures lineages { AtEachStart (ItemsHaveLineages self.run.shape) result.0 }
+        ensures reservations { HoldsReserve self.run.shape result.0 }
+        ensures settled { open_after self.run.shape result.0 ≡ 0 → IsSettled self.run.shape result.0 }
+        ensures released { open_after self.run.shape result.0 ≡ 0 → NothingIsHeld self.run.shape result.0 }
+        ensures parents { open_after self.run.shape result.0 ≡ 0 → ParentsWereBorn self.run.shape result.0 }
         ensures nodes { IfSome result.2 (λ nodes. map node_of nodes ≡ nodes_of self.run.shape result.0) }
     {
         let Book { line, posts, .. } = self;

@@ -1,8 +1,10 @@
 //! A graph with those who work on it.
 ghost use Rattle.std.specs.Prelude.{◌≡◌, ◌+◌, ◌<◌, ◌≤◌, ◌++◌, [], true, length, map, reverse, All, IfSome};
 ghost use Rattle.flow_item.specs.Events.{parties_of};
-ghost use Rattle.flow_machine.specs.Machine.{is_run};
+ghost use Rattle.flow_machine.specs.Machine.{is_run, open_after};
+ghost use Rattle.flow_machine.specs.Settled.{IsSettled};
 ghost use Rattle.flow_laws.specs.Moments.{IsWithinLimits, AtEachStart, EdgesAgree, HoldsAgree, NodesWithinLimits, LedgerAddsUp};
+ghost use Rattle.flow_fates.specs.Facts.{ItemsHaveOneFate, ItemsHaveLineages, HoldsReserve, NothingIsHeld, ParentsWereBorn};
 ghost use Rattle.flow_line.specs.Values.{IsPart};
 ghost use Rattle.flow_line.specs.Kept.{first_kept};
 ghost use Rattle.flow_nodes.specs.Rows.{nodes_of};
@@ -103,6 +105,12 @@ impl<'a, S: Bodies, G: Gate, B: Naming> Parts<'a, S, G, B> {
         ensures holds { AtEachStart (HoldsAgree self.entry.graph.book.run.shape) result.0 }
         ensures node_limits { AtEachStart (NodesWithinLimits self.entry.graph.book.run.shape) result.0 }
         ensures ledger { AtEachStart (LedgerAddsUp self.entry.graph.book.run.shape) result.0 }
+        ensures fates { AtEachStart (ItemsHaveOneFate self.entry.graph.book.run.shape) result.0 }
+        ensures lineages { AtEachStart (ItemsHaveLineages self.entry.graph.book.run.shape) result.0 }
+        ensures reservations { HoldsReserve self.entry.graph.book.run.shape result.0 }
+        ensures settled { open_after self.entry.graph.book.run.shape result.0 ≡ 0 → IsSettled self.entry.graph.book.run.shape result.0 }
+        ensures released { open_after self.entry.graph.book.run.shape result.0 ≡ 0 → NothingIsHeld self.entry.graph.book.run.shape result.0 }
+        ensures parents { open_after self.entry.graph.book.run.shape result.0 ≡ 0 → ParentsWereBorn self.entry.graph.book.run.shape result.0 }
     {
         let (book, seats) = self.into_seats();
         book.close(seats)
@@ -124,6 +132,12 @@ impl<'a, S: Bodies, G: Gate, B: Naming> Parts<'a, S, G, B> {
         ensures holds { AtEachStart (HoldsAgree self.entry.graph.book.run.shape) result.0 }
         ensures node_limits { AtEachStart (NodesWithinLimits self.entry.graph.book.run.shape) result.0 }
         ensures ledger { AtEachStart (LedgerAddsUp self.entry.graph.book.run.shape) result.0 }
+        ensures fates { AtEachStart (ItemsHaveOneFate self.entry.graph.book.run.shape) result.0 }
+        ensures lineages { AtEachStart (ItemsHaveLineages self.entry.graph.book.run.shape) result.0 }
+        ensures reservations { HoldsReserve self.entry.graph.book.run.shape result.0 }
+        ensures settled { open_after self.entry.graph.book.run.shape result.0 ≡ 0 → IsSettled self.entry.graph.book.run.shape result.0 }
+        ensures released { open_after self.entry.graph.book.run.shape result.0 ≡ 0 → NothingIsHeld self.entry.graph.book.run.shape result.0 }
+        ensures parents { open_after self.entry.graph.book.run.shape result.0 ≡ 0 → ParentsWereBorn self.entry.graph.book.run.shape result.0 }
         ensures nodes { IfSome result.2 (λ nodes. map node_of nodes ≡ nodes_of self.entry.graph.book.run.shape result.0) }
     {
         let (book, seats) = self.into_seats();

@@ -25,13 +25,11 @@ use Rattle.flow_work.specs.declared.plain.Ending.TheVariants as N
 use Rattle.flow_work.specs.declared.run.Refusal.TheVariants as R
 use Rattle.flow_machine.specs.Bodies.{Meanings}
 use Rattle.flow_machine.specs.Settled.{IsSettled}
-use Rattle.flow_fates.proofs.OneFateLaw.{one-fate}
-use Rattle.flow_fates.proofs.LineageLaw.{lineages-end}
-use Rattle.flow_fates.proofs.ReservationLaw.{one-reservation}
-use Rattle.flow_fates.proofs.NothingLeft.{nothing-held}
-use Rattle.flow_fates.proofs.BornParents.{parents-are-born}
+pub use Rattle.flow_fates.proofs.Facts.{one-fate-each, lineages-each, holds-reserve, parents-were-born}
+use Rattle.flow_fates.proofs.Facts.{closed-holds-nothing}
 use Rattle.flow_laws.specs.Moments.{AtEachStart, EdgesAgree, HoldsAgree, NodesWithinLimits, LedgerAddsUp}
-use Rattle.flow_work.specs.Promises.{ItemsHaveOneFate, ItemsHaveLineages, HoldsReserve, NothingIsHeld, ParentsWereBorn, IsRefusedNext, KeepsBodies}
+use Rattle.flow_fates.specs.Facts.{NothingIsHeld}
+use Rattle.flow_work.specs.Promises.{IsRefusedNext, KeepsBodies}
 use Rattle.flow_node.specs.Readied.{Readied}
 use Rattle.flow_work.specs.Plain.{run_of, AreNodesAfter, Leaves}
 use Rattle.flow_work.specs.Tasks.{HasBodies, KeepsScripts, KeepsWaits}
@@ -62,20 +60,8 @@ module _ (shape : Shape) (es : List Event) (valid : IsValid shape) (legal : is_l
     all = births-come shape before later valid (start-legal before later is);
   }
 
-  pub one-fate-each : AtEachStart (ItemsHaveOneFate shape) es
-  one-fate-each before later is n k at i = one-fate shape before later valid (start-legal before later is) n k at i
-
-  pub lineages-each : AtEachStart (ItemsHaveLineages shape) es
-  lineages-each before later is i = lineages-end shape before later valid (start-legal before later is) i
-
-  pub holds-reserve : HoldsReserve shape es
-  holds-reserve before between later l item hand e is = one-reservation shape before between later l item hand e (subst (λ es. is_legal shape es ≡ true) is legal)
-
   pub nothing-is-held : IsSettled shape es → NothingIsHeld shape es
-  nothing-is-held settled n k at = nothing-held shape es valid legal settled.closed n k at
-
-  pub parents-were-born : IsSettled shape es → ParentsWereBorn shape es
-  parents-were-born settled = parents-are-born shape es valid legal settled
+  nothing-is-held settled = closed-holds-nothing shape es valid legal settled.closed
 
 -- ---- documents that can be run
 

@@ -19,5 +19,11 @@ returns g c =
       holds = told.0.holds;
       node_limits = told.0.node_limits;
       ledger = told.0.ledger;
+      fates = told.0.fates;
+      lineages = told.0.lineages;
+      reservations = told.0.reservations;
+      settled = told.0.settled;
+      released = told.0.released;
+      parents = told.0.parents;
       nodes = nodes-after book.run book.items book.events c.of.result _ kept.new.workers.items taken.new.workers.items taken.result taken.ensures book.sized told.1;
     }

@@ -1,7 +1,9 @@
 use Rattle.std.proofs.Common.{◌≡◌, ◌++◌, true, All, sym, ap, ◌∙◌, subst}
 use Rattle.flow_item.specs.Events.{parties_of}
-use Rattle.flow_machine.specs.Machine.{is_run}
+use Rattle.flow_machine.specs.Machine.{is_run, open_after}
+use Rattle.flow_machine.specs.Settled.{IsSettled}
 use Rattle.flow_laws.specs.Moments.{AtEachStart, EdgesAgree, HoldsAgree, NodesWithinLimits, LedgerAddsUp}
+use Rattle.flow_fates.specs.Facts.{ItemsHaveOneFate, ItemsHaveLineages, HoldsReserve, NothingIsHeld, ParentsWereBorn}
 use Rattle.flow_line.specs.Values.{IsPart}
 use Rattle.flow_line.specs.Kept.{first_kept}
 use Rattle.flow_book.specs.Answers.{about_of}
@@ -49,3 +51,21 @@ returns-clause-node_limits g c = subst (λ b. AtEachStart (NodesWithinLimits b.r
 
 pub returns-clause-ledger : goal.returns-clause-ledger
 returns-clause-ledger g c = subst (λ b. AtEachStart (LedgerAddsUp b.run.shape) c.close_with_nodes.result.0) c.into_seats-book.ensures.book c.close_with_nodes.ensures.ledger
+
+pub returns-clause-fates : goal.returns-clause-fates
+returns-clause-fates g c = subst (λ b. AtEachStart (ItemsHaveOneFate b.run.shape) c.close_with_nodes.result.0) c.into_seats-book.ensures.book c.close_with_nodes.ensures.fates
+
+pub returns-clause-lineages : goal.returns-clause-lineages
+returns-clause-lineages g c = subst (λ b. AtEachStart (ItemsHaveLineages b.run.shape) c.close_with_nodes.result.0) c.into_seats-book.ensures.book c.close_with_nodes.ensures.lineages
+
+pub returns-clause-reservations : goal.returns-clause-reservations
+returns-clause-reservations g c = subst (λ b. HoldsReserve b.run.shape c.close_with_nodes.result.0) c.into_seats-book.ensures.book c.close_with_nodes.ensures.reservations
+
+pub returns-clause-settled : goal.returns-clause-settled
+returns-clause-settled g c = subst (λ b. open_after b.run.shape c.close_with_nodes.result.0 ≡ 0 → IsSettled b.run.shape c.close_with_nodes.result.0) c.into_seats-book.ensures.book c.close_with_nodes.ensures.settled
+
+pub returns-clause-released : goal.returns-clause-released
+returns-clause-released g c = subst (λ b. open_after b.run.shape c.close_with_nodes.result.0 ≡ 0 → NothingIsHeld b.run.shape c.close_with_nodes.result.0) c.into_seats-book.ensures.book c.close_with_nodes.ensures.released
+
+pub returns-clause-parents : goal.returns-clause-parents
+returns-clause-parents g c = subst (λ b. open_after b.run.shape c.close_with_nodes.result.0 ≡ 0 → ParentsWereBorn b.run.shape c.close_with_nodes.result.0) c.into_seats-book.ensures.book c.close_with_nodes.ensures.parents
