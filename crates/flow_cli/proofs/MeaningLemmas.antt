@@ -12,10 +12,11 @@ use Rattle.flow_doc.specs.Fits.{doc_fits}
 use Rattle.flow_doc.proofs.Fitting.{read_fits}
 use Rattle.flow_mean.specs.Determinate.{IsDeterminate}
 use Rattle.flow_determinacy.specs.Laws.{follows}
-use Rattle.flow_determinacy.proofs.Results.{one-result}
+use Rattle.flow_determinacy.proofs.Results.{one-result, section-meant}
 use Rattle.flow_print.specs.declared.status.Status.{Status}
 use Rattle.flow_print.specs.declared.status.Status.TheVariants as S
 use Rattle.flow_print.specs.Sinks.{sink_pairs, sinks_section}
+use Rattle.flow_work.specs.Results.{KeepsMeaning}
 use Rattle.flow_work.proofs.MeaningLemmas.{kept_whole, done_whole}
 use Rattle.flow_cli.specs.declared.input.TheConstants.{OFFERED}
 use Rattle.flow_cli.specs.declared.words.Generating.{Generating}
@@ -34,6 +35,10 @@ pub shows_meaning : (meanings : Meanings) (bodies workers : ℕ) (doc : Doc) (es
 shows_meaning meanings bodies workers doc es fits run kept done singles determined =
     let followed : follows meanings doc workers es ≡ true = both_true (both_true run (kept_whole doc.shape doc.scripts es done.scripts)) kept in
     (one-result meanings doc bodies workers es singles fits determined followed (done_whole doc.shape doc.scripts es done.scripts) done.settled).0
+
+-- where each sink has what the document means, the section shows it
+pub section_shown : (meanings : Meanings) (bodies : ℕ) (doc : Doc) (es : List Event) → doc_fits bodies doc ≡ true → KeepsMeaning meanings doc es → IsDeterminate meanings doc → sinks_section doc.names (sink_pairs doc.shape es) doc.sinks ≡ meaning_section meanings doc
+section_shown meanings bodies doc es fits keeps determined = section-meant meanings doc bodies (sink_pairs doc.shape es) fits (λ n k at sink. (keeps determined n k at).kept sink)
 
 -- what holds of the document that is there
 pub there : (Holds : Doc → Type 0) (o : Option Doc) (d : Doc) → o ≡ Some d → IfSome o Holds → Holds d

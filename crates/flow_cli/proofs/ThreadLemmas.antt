@@ -7,7 +7,7 @@ use Rattle.flow_node.specs.Built.{is_built}
 use Rattle.flow_node.specs.Readied.{Readied}
 use Rattle.flow_doc.specs.declared.Doc.{Doc}
 use Rattle.flow_doc.specs.declared.Kept.{Kept}
-use Rattle.flow_doc.proofs.Fitting.{read_fits}
+use Rattle.flow_doc.specs.Fits.{doc_fits}
 use Rattle.flow_print.specs.declared.status.Status.{Status}
 use Rattle.flow_print.specs.declared.status.Status.TheVariants as S
 use Rattle.flow_print.specs.Faults.{words_text, memory_text}
@@ -15,15 +15,15 @@ use Rattle.flow_print.specs.Outputs.{Ending, no_memory}
 use Rattle.flow_print.specs.Replayed.{AreStates, IsBuilt}
 use Rattle.flow_work.specs.Plain.{AreNodesAfter}
 use Rattle.flow_work.specs.Promises.{IsFresh}
+use Rattle.flow_work.specs.Results.{KeepsMeaning}
 use Rattle.flow_cli.specs.declared.input.InputFault.{InputFault}
-use Rattle.flow_cli.specs.declared.input.TheConstants.{OFFERED}
 use Rattle.flow_cli.specs.declared.threads_words.Threaded.{Threaded}
 use Rattle.flow_cli.specs.declared.words.Options.{Options}
-use Rattle.flow_cli.specs.Checked.{ShowsMeaning}
-use Rattle.flow_cli.specs.Plain.{IsRead, IsDone}
+use Rattle.flow_cli.specs.Checked.{HasMeaning}
+use Rattle.flow_cli.specs.Plain.{IsRead}
 use Rattle.flow_cli.specs.Steps.{IsAnswer, IsEnded, IsSaid, IsWhole, Reads, fault_ending, report_ending}
 use Rattle.flow_cli.specs.Threads.{IsThreaded, IsThreadedAnswer}
-use Rattle.flow_cli.proofs.MeaningLemmas.{shows_meaning, there, unlike_none}
+use Rattle.flow_cli.proofs.MeaningLemmas.{section_shown, unlike_none}
 use Rattle.flow_cli.proofs.PlainLemmas.{answers_input, answers_memory, answers_words, keeps_read, prints_run, same_doc, says_memory}
 
 pub built_kept : (doc : Doc) (kept : Kept) → kept.doc ≡ Some doc → list_all is_built doc.shape.nodes ≡ true → IsBuilt kept.doc
@@ -79,12 +79,8 @@ threaded_run shelf meanings before after asked doc kept status old new read run 
     same_asked : (a : Threaded) → Some asked ≡ Some a → asked ≡ a
     same_asked a e = cc
 
--- what the command leaves shows the meaning of a determinate document
-pub threaded_shows : (shelf : List (List ℕ)) (meanings : Meanings) (asked : Threaded) (before after : Option (List ℕ)) (kept : Kept) (status : Status) (old new : Option (List ℕ)) → IsThreadedAnswer shelf meanings (Some asked) before after kept status old new → status ≡ S.Done → ShowsMeaning meanings kept
-threaded_shows shelf meanings asked before after kept status old new answer same singles doc is determined =
-    let legal = (answer.run asked doc refl is).legal in
-    let done = answer.done same in
-    let alike : done.doc ≡ doc = same_doc kept.doc done.doc doc done.is is in
-    let whole : IsDone doc kept.journal = subst (λ (d : Doc). IsDone d kept.journal) alike done.done in
-    let read = there (λ (d : Doc). IsRead shelf before after (Ok d)) kept.doc doc is answer.document.read in
-    shows_meaning meanings (length shelf) (asked.workers + length doc.scripts) doc kept.journal (read_fits OFFERED shelf read.bytes doc read.is) legal.legal legal.bodies whole singles determined
+-- what is kept shows what the document means
+pub threaded_shows : (meanings : Meanings) (bodies : ℕ) (doc : Doc) (kept : Kept) → doc_fits bodies doc ≡ true → kept.doc ≡ Some doc → KeepsMeaning meanings doc kept.journal → HasMeaning meanings kept
+threaded_shows meanings bodies doc kept fits is keeps d at determined =
+    let alike : doc ≡ d = same_doc kept.doc doc d is at in
+    section_shown meanings bodies d kept.journal (subst (λ (x : Doc). doc_fits bodies x ≡ true) alike fits) (subst (λ (x : Doc). KeepsMeaning meanings x kept.journal) alike keeps) determined

@@ -9,6 +9,7 @@ ghost use Rattle.flow_print.specs.Replayed.{AreStates, IsBuilt};
 ghost use Rattle.flow_print.specs.Report.{MayBePrinted};
 ghost use Rattle.flow_work.specs.Plain.{AreNodesAfter};
 ghost use Rattle.flow_work.specs.Promises.{IsFresh, is_limit};
+ghost use Rattle.flow_work.specs.Results.{KeepsMeaning};
 ghost use Rattle.flow_cli.specs.Steps.{IsEnded, IsWhole, report_ending};
 ghost use Rattle.flow_cli.specs.Threads.{IsThreaded};
 
@@ -44,6 +45,7 @@ fn run_kept<R: Threads + Wait + Sync, B: Bodies, G: Gate>(
     requires fresh { IsFresh kept.old }
     ensures run { IsThreaded (B.meanings bodies.now) asked doc kept.new }
     ensures whole { OnOk result.0 (IsWhole doc kept.new) }
+    ensures meaning { OnOk result.0 (KeepsMeaning (B.meanings bodies.now) doc kept.new.journal) }
     ensures few { births kept.new.journal ≤ 2 ^ 63 }
     ensures limit { is_some kept.new.refused ≡ is_limit result.0 }
     ensures nodes { IfSome result.1 (AreNodesAfter doc.shape kept.new.journal) }
@@ -134,6 +136,7 @@ pub(crate) fn run_threaded<R: Threads + Wait + Sync, K: Sink, B: Bodies, G: Gate
     ensures ended { IsEnded (report_ending asked.options kept.new) result (K.written sink.old) (K.written sink.new) }
     ensures sent { (result ≡ Status.Write → ⊥) → K.is_sent sink.new ≡ true }
     ensures whole { result ≡ Status.Done → IsWhole doc kept.new }
+    ensures meaning { result ≡ Status.Done → KeepsMeaning (B.meanings bodies.now) doc kept.new.journal }
     ensures cause { result ≡ Status.Write → Rose (K.faults sink.old) (K.faults sink.new) (K.is_full sink.new) }
 {
     let (ended, nodes) = run_kept(rt, alloc, asked, doc, bodies, gate, kept);

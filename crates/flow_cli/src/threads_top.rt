@@ -1,6 +1,5 @@
 // The top call of the command that waits.
 ghost use Rattle.std.specs.Prelude.{◌≡◌, ◌⊎◌, ◌<◌, ◌≤◌, None, Some, true, length, map, string_bytes};
-ghost use Rattle.flow_determinacy.specs.Singles.{SinglesAnswerOnce};
 ghost use Rattle.flow_io.specs.Streams.{Rose};
 ghost use Rattle.flow_work.specs.Promises.{IsFresh};
 ghost use Rattle.flow_cli.specs.Checked.{HasMeaning};
@@ -42,18 +41,12 @@ fn threaded_line<R: Threads + Wait + Sync, S: Source, K: Sink, B: Bodies, G: Gat
     ensures sent { (result ≡ Status.Write → ⊥) → K.is_sent sink.new ≡ true }
     ensures read { result ≡ Status.Read → Rose (S.faults source.old) (S.faults source.new) (S.is_full source.new) }
     ensures write { result ≡ Status.Write → Rose (K.faults sink.old) (K.faults sink.new) (K.is_full sink.new) }
+    ensures meaning { result ≡ Status.Done → HasMeaning (B.meanings bodies.now) kept.new }
 {
     match read_input(alloc, source, shelf) {
         Ok(doc) => run_threaded(rt, alloc, asked, doc, sink, bodies, gate, kept),
         Err(fault) => refuse(alloc, &fault, sink),
     }
-}
-
-// A body that is pure and single answers one message.
-fn answer_once<B: Bodies>(bodies: &B)
-    ensures { SinglesAnswerOnce (B.meanings bodies.now) }
-{
-    let _ = bodies;
 }
 
 /// Serves the command `run`, and refuses all other words. It reads the source, runs the document on threads, keeps what
@@ -90,7 +83,6 @@ pub fn flow_top<R: Threads + Wait + Sync, S: Source, K: Sink, B: Bodies, G: Gate
         → (result ≡ Status.Memory) ⊎ IsDue (map (λ b. b.name) shelf.now.bodies.items) (run_options (map string_bytes words.now)) (S.left source.old) result }
     ensures meaning { result ≡ Status.Done → HasMeaning (B.meanings bodies.now) kept.new }
 {
-    answer_once(bodies);
     match run_words(alloc, words) {
         Ok(Some(asked)) => threaded_line(rt, alloc, asked, source, sink, shelf, bodies, gate, kept),
         Ok(None) => say(sink, words_text(), Status::Words),

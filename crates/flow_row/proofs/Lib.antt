@@ -1,6 +1,3 @@
 mod Calls
 mod Nodes
-mod Sent
-mod SentNodes
-mod SentBook
 mod SentRow

@@ -6,7 +6,7 @@ use Rattle.std.proofs.Crossing.{sync}
 use Rattle.std.specs.contracts.alloc.Global as heap
 use Rattle.flow_line.specs.declared.naming.Naming
 use Rattle.flow_row.specs.contracts.row.Row
-use Rattle.flow_row.proofs.SentBook.{book-sync}
+use Rattle.flow_book.proofs.SentBook.{book-sync}
 
 pub heap-sync : IsSync heap.the_row
 heap-sync = search (sync, sendable) depth 20

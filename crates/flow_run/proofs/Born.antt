@@ -5,7 +5,7 @@ use Rattle.std.proofs.lemmas.List.{drop_all}
 use Rattle.flow_item.specs.declared.event.Event.{Event}
 use Rattle.flow_item.specs.Events.{births_of, births}
 use Rattle.flow_laws.specs.Moments.{IsWithinLimits}
-use Rattle.flow_run.proofs.Following.{drop-at}
+use Rattle.flow_node.proofs.NumberLemmas.{drop-at}
 
 births-append : (xs ys : List Event) → births (xs ++ ys) ≡ births xs + births ys
 births-append [] ys = omega arith

@@ -31,6 +31,7 @@ use Rattle.flow_machine.specs.Schedule.{is_left}
 use Rattle.flow_machine.specs.Bodies.{Meanings, bodies_kept}
 use Rattle.flow_progress.specs.NeverStuck.{has_left}
 use Rattle.flow_laws.specs.Moments.{IsWithinLimits}
+use Rattle.flow_determinacy.proofs.Along.{sent_of-append}
 use Rattle.flow_line.specs.Values.{Sitting, IsPart}
 use Rattle.flow_line.specs.Kept.{kept_event, or_else, first_kept}
 use Rattle.flow_line.proofs.Beginnings.{prefix_trans}
@@ -39,7 +40,9 @@ use Rattle.flow_book.specs.Answers.{about_of, passes}
 use Rattle.flow_book.specs.Callers.{number_of, is_caller_of}
 use Rattle.flow_book.specs.Opening.{numbers_below, callers_of, workers_of}
 use Rattle.flow_work.specs.Promises.{FollowsScripts, CompletesScripts, HeedsWaits, KeepsBodies, WaitedAt}
+use Rattle.flow_work.proofs.CallerLemmas.{left-events}
 use Rattle.flow_work.proofs.CursorLemmas.{sent_of-snoc}
+use Rattle.flow_work.proofs.LimitLemmas.{not-less}
 use Rattle.flow_work.proofs.RunLemmas.{plain-kept, bodies-snoc}
 use Rattle.flow_crew.specs.Bodies.{KeepsOf}
 use Rattle.flow_crew.specs.Crew.{KeptSuch, KeepsSuch, IsWork, IsCaller, IsWorker}
@@ -52,7 +55,7 @@ use Rattle.flow_run.specs.Refusals.{IsRefusedWithin}
 use Rattle.flow_run.specs.Runs.{IsRunOf, SawTheEnd}
 use Rattle.flow_run.proofs.BodyLemmas.{all-there, bodies-start, bodies-of-workers}
 use Rattle.flow_run.proofs.Changed.{all-imply, map-twice}
-use Rattle.flow_run.proofs.Following.{all_sent-append, not-less, waited-longer}
+use Rattle.flow_run.proofs.Following.{waited-longer}
 
 -- ---- chairs by number
 
@@ -100,9 +103,6 @@ module _ (f : ℕ → Party) where
 
 -- ---- scripts
 
-sent_of-append : (xs ys : List Event) (n : ℕ) → sent_of (xs ++ ys) n ≡ sent_of xs n ++ sent_of ys n
-sent_of-append xs ys n = ap all_sent (projection-append parties_of (Caller n) xs ys) ∙ all_sent-append (projection parties_of (Caller n) xs) (projection parties_of (Caller n) ys)
-
 -- what is followed is followed in each beginning
 pub follows-start : (shape : Shape) (scripts : List (List Step)) (xs es : List Event) → IsPrefix xs es → FollowsScripts shape scripts es → FollowsScripts shape scripts xs
 follows-start shape scripts xs es begins h n steps at =
@@ -128,14 +128,6 @@ module _ (shape : Shape) (steps : List Step) (run : Run) (items events : ℕ) (e
       waited-longer shape steps c.seen es n k part.seen (subst (λ (p : Party). WaitedAt shape steps c.seen (number_of p) k) party (h.waited k at less))
 
 -- ---- whole scripts
-
-left-events : (es : List Event) → is_left (all_sent es) ≡ list_any is_leave es
-left-events [] = refl
-left-events (E.Leave c ∷ es) = refl
-left-events (E.Put c n port tag val answer ∷ es) = left-events es
-left-events (E.Act c n ∷ es) = left-events es
-left-events (E.Cancel c n dropped ∷ es) = left-events es
-left-events (e ∷ es) = left-events es
 
 nothing-right : {X : Type 0} (xs ys : List X) → xs ++ ys ≡ [] → ys ≡ []
 nothing-right [] ys h = h

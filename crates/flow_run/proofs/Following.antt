@@ -27,8 +27,12 @@ use Rattle.flow_line.proofs.Beginnings.{prefix_snoc}
 use Rattle.flow_book.specs.declared.machine.Run.{Run}
 use Rattle.flow_book.specs.Answers.{kept_first, IsDone, IsHalted, IsKept, IsSame, IsStopped}
 use Rattle.flow_book.specs.Callers.{number_of, is_caller_of}
+use Rattle.flow_node.proofs.NumberLemmas.{drop-at}
 use Rattle.flow_work.specs.Promises.{WaitedAt}
 use Rattle.flow_work.specs.Runs.{is_good_step}
+use Rattle.flow_work.proofs.CursorLemmas.{all_sent-append}
+use Rattle.flow_work.proofs.EndLemmas.{later-shorter}
+use Rattle.flow_work.proofs.LimitLemmas.{not-less}
 use Rattle.flow_shape.proofs.Sorting.{all-at}
 use Rattle.flow_machine.specs.Bodies.{Meanings}
 use Rattle.flow_crew.specs.Crew.{IsWorker}
@@ -37,44 +41,8 @@ use Rattle.flow_run.specs.Following.{HasAllOwn, DoesStep, IsOfStep, StopsBy, Lea
 
 -- ---- scripts
 
-pub drop-at : {X : Type 0} (xs : List X) (n : ℕ) (x : X) → slice_get xs n ≡ Some x → drop n xs ≡ x ∷ drop (suc n) xs
-drop-at [] n x h = cc
-drop-at (y ∷ xs) zero x h = let same : y ≡ x = cc in ap (λ z. z ∷ xs) same
-drop-at (y ∷ xs) (suc n) x h = drop-at xs n x h
-
-pub all_sent-append : (es fs : List Event) → all_sent (es ++ fs) ≡ all_sent es ++ all_sent fs
-all_sent-append [] fs = refl
-all_sent-append (e ∷ es) fs = ap (λ ds. sent_by e ++ ds) (all_sent-append es fs) ∙ sym (append_assoc (sent_by e) (all_sent es) (all_sent fs))
-
 all_sent-snoc : (es : List Event) (e : Event) → all_sent (es ++ e ∷ []) ≡ all_sent es ++ sent_by e
 all_sent-snoc es e = all_sent-append es (e ∷ []) ∙ ap (λ ds. all_sent es ++ ds) (append-nil (sent_by e))
-
-module _ (shape : Shape) where
-  tail-shorter : (s : Step) (ss : List Step) → length (script shape ss) ≤ length (script shape (s ∷ ss))
-  tail-shorter (T.Put n port tag val) ss = omega arith
-  tail-shorter (T.Act n) ss = omega arith
-  tail-shorter T.Wait ss = omega arith
-  tail-shorter T.Cancel ss = behind (places is_body 0 shape.nodes) (duties shape ss)
-    where
-      behind : (ns : List ℕ) (ts : List Duty) → length (done_in ts) ≤ length (done_in (map (λ n. does (cancels n)) ns ++ ts))
-      behind [] ts = omega arith
-      behind (n ∷ ns) ts = let rest = behind ns ts in omega (arith, rest)
-
-  drop-shorter : (ss : List Step) (n : ℕ) → length (script shape (drop n ss)) ≤ length (script shape ss)
-  drop-shorter [] zero = omega arith
-  drop-shorter [] (suc n) = omega arith
-  drop-shorter (s ∷ ss) zero = omega arith
-  drop-shorter (s ∷ ss) (suc n) = let rest = drop-shorter ss n in let tail = tail-shorter s ss in omega (arith, rest, tail)
-
-  later-shorter : (ss : List Step) (n k : ℕ) → n ≤ k → length (script shape (drop k ss)) ≤ length (script shape (drop n ss))
-  later-shorter ss zero k h = drop-shorter ss k
-  later-shorter [] (suc n) zero h = omega arith
-  later-shorter [] (suc n) (suc k) h = omega arith
-  later-shorter (s ∷ ss) (suc n) zero h = absurd (omega (arith, h))
-  later-shorter (s ∷ ss) (suc n) (suc k) h = later-shorter ss n k (omega (arith, h))
-
-pub not-less : (n k : ℕ) → ltb k n ≡ false → n ≤ k
-not-less n k h = grind (arith, nat_tests)
 
 or-false : (b : Bool) → (b || false) ≡ b
 or-false true = refl

@@ -5,7 +5,5 @@ pub mod Changed
 pub mod Closed
 pub mod Following
 pub mod Sent
-pub mod SentBook
 pub mod SentGraph
-pub mod SentNodes
 pub mod SentSite

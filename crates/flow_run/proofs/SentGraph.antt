@@ -10,6 +10,8 @@ use Rattle.flow_item.proofs.val.Text.TheSendSync as text
 use Rattle.flow_shape.proofs.Edge.TheSendSync as edge
 use Rattle.flow_shape.specs.contracts.Step as Step
 use Rattle.flow_doc.specs.contracts.Doc as Doc
+use Rattle.flow_book.proofs.SentEvents.{kind-sync}
+use Rattle.flow_book.proofs.SentBook.{book-sync}
 use Rattle.flow_line.specs.declared.naming.Naming
 use Rattle.flow_pool.proofs.pool.Pool.TheSendSync as pool
 use Rattle.flow_crew.proofs.bodies.Bench.TheSendSync as bench
@@ -20,8 +22,6 @@ use Rattle.flow_crew.specs.contracts.graph.Graph as Graph
 use Rattle.std.specs.contracts.vec.Vec as Vec
 use Rattle.std.specs.contracts.alloc.Global as Global
 use Rattle.std.specs.contracts.impls.GlobalAllocator.TheImpl.{ghosts}
-use Rattle.flow_run.proofs.Sent.{kind-sync}
-use Rattle.flow_run.proofs.SentBook.{book-sync}
 
 pub step-sync : IsSync Step.the_row
 step-sync = search (crosses, knot.crosses, sendable) depth 60 fits 200000
@@ -34,7 +34,7 @@ module _ (a : NamedLft) (S G B : RattleType) (b : _) (n : Naming.Ghosts B.Denot)
   graph-sync = declared_sync (Graph.the_type a S G B b n) (
     search (doc-sync, sendable) depth 20,
     (
-      search (book-sync, s, t, sendable) depth 20,
+      search (book-sync, sendable) depth 20,
       (
         search (pool.the_sync, sendable) depth 20,
         (

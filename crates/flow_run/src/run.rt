@@ -1,5 +1,5 @@
 //! A whole run of a document on threads.
-ghost use Rattle.std.specs.Prelude.{◌≡◌, ◌+◌, ◌<◌, ◌≤◌, ◌^◌, ◌++◌, [], true, None, is_ok, is_some, length, map, All, OnOk, IfOk, IfSome};
+ghost use Rattle.std.specs.Prelude.{◌≡◌, ◌+◌, ◌<◌, ◌≤◌, ◌^◌, ◌++◌, [], true, None, Some, is_ok, is_some, length, map, All, OnOk, IfOk, IfSome};
 ghost use Rattle.std.specs.List.{list_all, count_by};
 ghost use denote.Param.Send.{IsSync, IsSend};
 ghost use Rattle.flow_item.specs.Events.{births};
@@ -162,7 +162,15 @@ fn run_parts<B: Naming + Send + Sync, R: Threads + Wait + Sync, S: Bodies, G: Ga
     join_parts(&site, callers, workers);
 }
 
-// Whether all have left and nothing is open, and nothing was refused. The last worker looks.
+// Whether a worker's look found that its work is done.
+fn is_quiet(ended: &Option<Waited>) -> bool
+    ensures { result ≡ true → ended.now ≡ Some Waited.Quiet }
+{
+    matches!(ended, Some(Waited::Quiet))
+}
+
+// Whether all have left and nothing is open, and nothing was refused. A worker looks once more, when nobody else is at work
+// any more: what each answered in its thread can't be brought back without memory.
 fn is_done<B: Naming, R: Wait, S: Bodies, G: Gate>(
     rt: &R,
     graph: &Graph<S, G, B>,
@@ -178,7 +186,7 @@ fn is_done<B: Naming, R: Wait, S: Bodies, G: Gate>(
         Some(mut worker) => {
             let ended = worker.ended(rt, graph);
             workers.push_reserved(worker);
-            matches!(ended, Some(Waited::Quiet))
+            is_quiet(&ended)
         }
         None => unreachable!(),
     }
@@ -368,6 +376,9 @@ pub fn run_all_with_nodes<R: Threads + Wait + Sync, S: Bodies, G: Gate>(
     ensures fates { AtEachStart (ItemsHaveOneFate doc.now.shape) kept.new.journal }
     ensures lineages { AtEachStart (ItemsHaveLineages doc.now.shape) kept.new.journal }
     ensures reservations { HoldsReserve doc.now.shape kept.new.journal }
+    ensures closed { OnOk result.0 (open_after doc.now.shape kept.new.journal ≡ 0) }
+    ensures at_rest { open_after doc.now.shape kept.new.journal ≡ 0
+        → IsSettled doc.now.shape kept.new.journal × NothingIsHeld doc.now.shape kept.new.journal × ParentsWereBorn doc.now.shape kept.new.journal }
     ensures settled { OnOk result.0 (IsSettled doc.now.shape kept.new.journal) }
     ensures released { OnOk result.0 (NothingIsHeld doc.now.shape kept.new.journal) }
     ensures parents { OnOk result.0 (ParentsWereBorn doc.now.shape kept.new.journal) }
@@ -426,6 +437,9 @@ pub fn run_all<R: Threads + Wait + Sync, S: Bodies, G: Gate>(
     ensures fates { AtEachStart (ItemsHaveOneFate doc.now.shape) kept.new.journal }
     ensures lineages { AtEachStart (ItemsHaveLineages doc.now.shape) kept.new.journal }
     ensures reservations { HoldsReserve doc.now.shape kept.new.journal }
+    ensures closed { OnOk result (open_after doc.now.shape kept.new.journal ≡ 0) }
+    ensures at_rest { open_after doc.now.shape kept.new.journal ≡ 0
+        → IsSettled doc.now.shape kept.new.journal × NothingIsHeld doc.now.shape kept.new.journal × ParentsWereBorn doc.now.shape kept.new.journal }
     ensures settled { OnOk result (IsSettled doc.now.shape kept.new.journal) }
     ensures released { OnOk result (NothingIsHeld doc.now.shape kept.new.journal) }
     ensures parents { OnOk result (ParentsWereBorn doc.now.shape kept.new.journal) }

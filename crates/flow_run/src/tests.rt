@@ -9,7 +9,7 @@ ghost use Rattle.flow_node.specs.Built.{is_built};
 use super::*;
 use flow_crew::{Builtin, NoGate};
 use flow_doc::{Doc, Kept, Names, Nodes, Scripts};
-use flow_item::{Items, Stop, Text, Val};
+use flow_item::{Event, Items, Journal, Stop, Text, Val};
 use flow_shape::{Edge, Edges, Kind, Kinds, Shape, Step};
 use std::alloc::Global;
 use std::test::*;
@@ -78,7 +78,67 @@ fn function_into_queue(alloc: Global) -> Result<Doc, Fail>
     })
 }
 
-// Two puts, each with a start, an end and a give, and a leave.
+// How many events there are of each of these forms, and how many items they bear.
+#[derive(Clone, Copy, Debug, PartialEq)]
+struct Counts {
+    puts: u64,
+    starts: u64,
+    ends: u64,
+    gives: u64,
+    leaves: u64,
+    items: u64,
+}
+
+// With one event more.
+fn counted(counts: Counts, event: &Event) -> Counts {
+    let items = counts.items.saturating_add(event.births());
+    match event {
+        Event::Put { .. } => Counts {
+            puts: counts.puts.saturating_add(1),
+            items,
+            ..counts
+        },
+        Event::Start { .. } => Counts {
+            starts: counts.starts.saturating_add(1),
+            items,
+            ..counts
+        },
+        Event::End { .. } => Counts {
+            ends: counts.ends.saturating_add(1),
+            items,
+            ..counts
+        },
+        Event::Give { .. } => Counts {
+            gives: counts.gives.saturating_add(1),
+            items,
+            ..counts
+        },
+        Event::Leave { .. } => Counts {
+            leaves: counts.leaves.saturating_add(1),
+            items,
+            ..counts
+        },
+        _ => Counts { items, ..counts },
+    }
+}
+
+// Those of a journal.
+fn counts_of(journal: &Journal) -> Counts {
+    let mut counts = Counts {
+        puts: 0,
+        starts: 0,
+        ends: 0,
+        gives: 0,
+        leaves: 0,
+        items: 0,
+    };
+    for event in journal.as_slice() {
+        counts = counted(counts, event);
+    }
+    counts
+}
+
+// Two puts, each with a start, an end and a give, and a leave. Each put, end and give bears an item.
 #[test]
 fn a_caller_that_waits(rt: HostRuntime) -> Result<(), Fail> {
     let alloc = rt.alloc();
@@ -87,10 +147,20 @@ fn a_caller_that_waits(rt: HostRuntime) -> Result<(), Fail> {
     let ran = run_all(&rt, alloc, &doc, &Builtin, &NoGate, 4, 100, 1000, &mut kept);
     assert!(rt; ran.is_ok());
     assert!(rt; kept.refused.is_none());
-    assert!(rt; kept.journal.len() >= 9);
+    let counts = counts_of(&kept.journal);
+    let all = Counts {
+        puts: 2,
+        starts: 2,
+        ends: 2,
+        gives: 2,
+        leaves: 1,
+        items: 6,
+    };
+    assert!(rt; counts == all);
     Ok(())
 }
 
+// The put bears the one item, and its body's end is refused.
 #[test]
 fn a_limit_of_one_item(rt: HostRuntime) -> Result<(), Fail> {
     let alloc = rt.alloc();
@@ -98,7 +168,17 @@ fn a_limit_of_one_item(rt: HostRuntime) -> Result<(), Fail> {
     let mut kept = Kept::new(alloc);
     let ran = run_all(&rt, alloc, &doc, &Builtin, &NoGate, 2, 1, 1000, &mut kept);
     assert!(rt; matches!(ran, Err(Stop::Limit)));
-    assert!(rt; kept.refused.is_some());
+    assert!(rt; matches!(kept.refused, Some(Event::End { node: 0, .. })));
+    let counts = counts_of(&kept.journal);
+    let all = Counts {
+        puts: 1,
+        starts: 1,
+        ends: 0,
+        gives: 0,
+        leaves: 0,
+        items: 1,
+    };
+    assert!(rt; counts == all);
     Ok(())
 }
 

@@ -55,7 +55,7 @@ within-at-start items events = record { few = omega arith; room = λ before e la
     never [] e later is = cc
     never (b ∷ bs) e later is = cc
 
-not-less : (n k : ℕ) → ltb k n ≡ false → n ≤ k
+pub not-less : (n k : ℕ) → ltb k n ≡ false → n ≤ k
 not-less n k h = grind (arith, nat_tests)
 
 -- a count that stands still at its type's end tells whether there are too many

@@ -2,7 +2,6 @@ use Rattle.std.proofs.Common.{◌≡◌, Some, map, string_bytes, rules}
 use Rattle.flow_cli.specs.RunWords.{run_asked}
 use Rattle.flow_cli.proofs.MeaningLemmas.{unlike_none}
 use Rattle.flow_cli.proofs.PlainLemmas.{causes, completes}
-use Rattle.flow_cli.proofs.ThreadLemmas.{threaded_shows}
 use Rattle.flow_cli.proofs.threads_top.flow_top.Goals as goal
 
 pub returns-in-Ok-Some-clause-document : goal.returns-in-Ok-Some-clause-document
@@ -51,7 +50,7 @@ returns-in-Ok-Some-clause-complete g c = λ source sink.
     rw asked (completes _ _ _ _ _ _ _ _ c.threaded_line.ensures.answer.printed c.threaded_line.ensures.answer.document (λ e. source (c.threaded_line.ensures.read e)) (λ e. sink (c.threaded_line.ensures.write e)))
 
 pub returns-in-Ok-Some-clause-meaning : goal.returns-in-Ok-Some-clause-meaning
-returns-in-Ok-Some-clause-meaning g c = λ done. threaded_shows _ _ _ _ _ _ _ _ _ c.threaded_line.ensures.answer done c.answer_once.ensures
+returns-in-Ok-Some-clause-meaning g c = c.threaded_line.ensures.meaning
 
 pub returns-in-Ok-None-clause-meaning : goal.returns-in-Ok-None-clause-meaning
 returns-in-Ok-None-clause-meaning g c = λ done doc is determined. absurd (unlike_none _ _ c.requires.none is)

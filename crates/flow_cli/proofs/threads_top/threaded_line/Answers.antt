@@ -4,7 +4,8 @@ use Rattle.flow_doc.specs.Fits.{doc_fits}
 use Rattle.flow_doc.proofs.Fitting.{read_fits}
 use Rattle.flow_cli.specs.declared.input.TheConstants.{OFFERED}
 use Rattle.flow_cli.proofs.Built.{read_is_built, read_is_early}
-use Rattle.flow_cli.proofs.ThreadLemmas.{threaded_input, threaded_run}
+use Rattle.flow_cli.proofs.MeaningLemmas.{unlike_none}
+use Rattle.flow_cli.proofs.ThreadLemmas.{threaded_input, threaded_run, threaded_shows}
 use Rattle.flow_cli.proofs.threads_top.threaded_line.Goals as goal
 
 pub run_threaded-requires-clause-fits : goal.run_threaded-requires-clause-fits
@@ -21,3 +22,9 @@ returns-in-Ok-clause-answer g c = threaded_run _ _ _ _ _ _ _ _ _ _ c.in-Ok.ensur
 
 pub returns-in-Err-clause-answer : goal.returns-in-Err-clause-answer
 returns-in-Err-clause-answer g c = threaded_input _ _ _ _ _ c.in-Err.fault _ _ _ _ c.in-Err.ensures.reads c.requires.none c.requires.fresh c.refuse.ensures.ended
+
+pub returns-in-Ok-clause-meaning : goal.returns-in-Ok-clause-meaning
+returns-in-Ok-clause-meaning g c = λ done. threaded_shows _ _ c.in-Ok.doc _ (read_fits OFFERED _ c.in-Ok.ensures.reads.bytes c.in-Ok.doc c.in-Ok.ensures.reads.is) c.run_threaded.ensures.run.document (c.run_threaded.ensures.meaning done)
+
+pub returns-in-Err-clause-meaning : goal.returns-in-Err-clause-meaning
+returns-in-Err-clause-meaning g c = λ done doc is determined. absurd (unlike_none _ _ c.requires.none is)

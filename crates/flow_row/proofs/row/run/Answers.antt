@@ -1,6 +1,6 @@
 use denote.Param.Send.{sendable}
 use Rattle.flow_line.proofs.chair.Chair.TheSendSync as chair
-use Rattle.flow_row.proofs.Sent.{event-send}
+use Rattle.flow_book.proofs.SentEvents.{event-send}
 use Rattle.flow_row.proofs.SentRow.{heap-sync, row-sync}
 use Rattle.flow_row.proofs.Calls.{row-callers, row-workers}
 use Rattle.flow_row.proofs.row.run.Goals as goal

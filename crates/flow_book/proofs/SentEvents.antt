@@ -1,4 +1,4 @@
--- What threads ask of types.
+-- That values and events may go to other threads.
 use denote.Param.Send.{IsSend, IsSync, sendable}
 use Rattle.std.proofs.Crossing.{crosses}
 use Rattle.flow_item.proofs.val.Val.TheLaws.TheKnot as knot

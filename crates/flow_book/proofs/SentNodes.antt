@@ -1,4 +1,4 @@
--- What threads ask of nodes.
+-- That nodes may go to other threads.
 use denote.Param.Send.{IsSend, sendable}
 use Rattle.std.proofs.Crossing.{crosses}
 use Rattle.flow_item.proofs.val.Val.TheLaws.TheKnot as knot
@@ -19,7 +19,7 @@ use Rattle.flow_cast.specs.contracts.cast.Cast as Cast
 use Rattle.flow_join.specs.contracts.queue.QueueJoin as QueueJoin
 use Rattle.flow_join.specs.contracts.key.KeyJoin as KeyJoin
 use Rattle.flow_node.specs.contracts.node.NodeState as Node
-use Rattle.flow_row.proofs.Sent.{val-send, item-send}
+use Rattle.flow_book.proofs.SentEvents.{val-send, item-send}
 
 item-field-send : IsSend (I.the_field).row
 item-field-send = search (crosses, knot.crosses, sendable) depth 60 fits 20000

@@ -1,4 +1,4 @@
--- What threads ask of a book.
+-- That threads may share a book.
 use denote.RattleType.{RattleType}
 use denote.Param.Send.{IsSync, view_send, sendable}
 use denote.Param.SendFields.{declared_send, declared_sync, as_row_sync}
@@ -20,8 +20,8 @@ use Rattle.std.specs.contracts.sync.Mutex as M
 use Rattle.std.specs.contracts.vec.Vec as Vec
 use Rattle.std.specs.contracts.alloc.Global as heap
 use Rattle.std.specs.contracts.impls.GlobalAllocator.TheImpl as heap_ghosts
-use Rattle.flow_row.proofs.Sent.{event-send, run-sync}
-use Rattle.flow_row.proofs.SentNodes.{node-send}
+use Rattle.flow_book.proofs.SentEvents.{event-send, run-sync}
+use Rattle.flow_book.proofs.SentNodes.{node-send}
 
 module _ (B : RattleType) (n : Naming.Ghosts B.Denot) where
   pub book-sync : IsSync (Book.the_row B n)
