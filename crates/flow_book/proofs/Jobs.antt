@@ -19,7 +19,7 @@ use Rattle.flow_shape.specs.Kinds.{is_body}
 use Rattle.flow_machine.specs.State.{BodyState, Part, store_part, keeper_part, body_part, input_part, limiter_part, join_part, reserve_part, broadcast_part, split_part, continue_part, NodeState, PlacedNode}
 use Rattle.flow_machine.specs.Enabled.{is_numbered, first_is, is_input_ready, may_start}
 use Rattle.flow_machine.proofs.Frames.{Fits}
-use Rattle.flow_node.specs.NodeViews.{ticket_items, first_ready as ready_of}
+use Rattle.flow_node.specs.NodeViews.{first_ready as ready_of}
 use Rattle.flow_line.specs.Values.{Sitting, IsMadeByTwo}
 use Rattle.flow_line.proofs.Committed.{same_self}
 use Rattle.flow_book.specs.declared.machine.Run.{Run}

@@ -1,4 +1,4 @@
-use Rattle.std.proofs.Common.{true, false, subst, Bool}
+use Rattle.std.proofs.Common.{subst, Bool}
 use Rattle.flow_item.specs.declared.event.Event.{Event}
 use Rattle.flow_book.specs.Posts.{ChangesAcross}
 use Rattle.flow_book.proofs.post.change_across.Goals as goal
