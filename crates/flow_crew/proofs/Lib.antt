@@ -6,6 +6,8 @@ pub mod Owned
 pub mod Quiet
 pub mod Ready
 pub mod Seen
+pub mod Sent
+pub mod SentGraph
 pub mod Shelved
 pub mod Stays
 pub mod Wished

@@ -4,6 +4,4 @@ pub mod Born
 pub mod Changed
 pub mod Closed
 pub mod Following
-pub mod Sent
-pub mod SentGraph
 pub mod SentSite

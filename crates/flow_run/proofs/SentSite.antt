@@ -8,7 +8,7 @@ use Rattle.std.proofs.Crossing.{sync}
 use Rattle.flow_line.specs.declared.naming.Naming
 use Rattle.flow_crew.specs.contracts.graph.Graph as Graph
 use Rattle.flow_run.specs.contracts.run.Site as Site
-use Rattle.flow_run.proofs.SentGraph.{doc-sync, graph-sync}
+use Rattle.flow_crew.proofs.SentGraph.{doc-sync, graph-sync}
 
 module _ (a : NamedLft) (R S G B : RattleType) (r : IsSync R) (y : IsSync S) (z : IsSync G) (s : IsSend B) (t : IsSync B) where
   pub site-sync : (b : _) (n : Naming.Ghosts B.Denot) → IsSync (Site.the_row a R S G B b n)

@@ -1,6 +1,6 @@
 use Rattle.std.proofs.Common.{◌∙◌, sym, ap, rules}
 use denote.Param.Send.{sendable}
-use Rattle.flow_run.proofs.Sent.{caller-send}
+use Rattle.flow_crew.proofs.Sent.{caller-send}
 use Rattle.flow_run.proofs.SentSite.{site-sync}
 use Rattle.flow_run.proofs.Changed.{map-same}
 use Rattle.flow_run.proofs.run.follow_all.Goals as goal

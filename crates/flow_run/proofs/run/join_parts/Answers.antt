@@ -1,5 +1,5 @@
 use denote.Param.Send.{sendable}
-use Rattle.flow_run.proofs.Sent.{worker-send}
+use Rattle.flow_crew.proofs.Sent.{worker-send}
 use Rattle.flow_run.proofs.SentSite.{site-sync}
 use Rattle.flow_run.proofs.run.join_parts.Goals as goal
 
