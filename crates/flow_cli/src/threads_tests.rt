@@ -395,6 +395,7 @@ fn a_body_without_memory(rt: HostRuntime) -> Result<(), Fail> {
 fn generated(alloc: Global, line: &str) -> Result<String, Fail> {
     let mut source = source(alloc, "")?;
     let mut sink = sink(alloc);
+    sink.most = 65_536;
     let (status, _) = plain_call(alloc, line, &mut source, &mut sink)?;
     if status.code() != 0 {
         return Err(Fail::from("no text"));
@@ -403,9 +404,10 @@ fn generated(alloc: Global, line: &str) -> Result<String, Fail> {
 }
 
 // Its sinks, by what it means.
-fn generated_sinks(alloc: Global) -> Result<String, Fail> {
-    let mut text = String::from_str(alloc, "sinks 1\nout 100\n")?;
-    for k in 0..100u64 {
+fn generated_sinks(alloc: Global, count: u32) -> Result<String, Fail> {
+    let mut text = format!(in alloc; "sinks 1\nout {count}\n")?;
+    for place in 0..count {
+        let k = u64::from(place);
         let line = format!(in alloc; "{k} [{},-{}]\n", 3 * (k + 1), k + 1)?;
         text.push_str(line.as_str())?;
     }
@@ -416,7 +418,7 @@ fn generated_sinks(alloc: Global) -> Result<String, Fail> {
 fn generated_on_threads(rt: HostRuntime) -> Result<(), Fail> {
     let alloc = rt.alloc();
     let document = generated(alloc, "gen 100 --text")?;
-    let sinks = generated_sinks(alloc)?;
+    let sinks = generated_sinks(alloc, 100)?;
     for line in LINES.as_slice() {
         expect(
             &rt,
@@ -428,6 +430,25 @@ fn generated_on_threads(rt: HostRuntime) -> Result<(), Fail> {
             " items 1100 refused 0 status 0\n",
         )?;
     }
+    Ok(())
+}
+
+// Many numbers and workers: the sinks are what the document means.
+#[test]
+fn many_generated_on_threads(rt: HostRuntime) -> Result<(), Fail> {
+    let alloc = rt.alloc();
+    let document = generated(alloc, "gen 20000 --text")?;
+    let sinks = generated_sinks(alloc, 20000)?;
+    let mut source = source(alloc, document.as_str())?;
+    source.most = 65_536;
+    let mut sink = sink(alloc);
+    sink.most = 65_536;
+    let words = "run --workers 64";
+    let (status, _) = call(&rt, alloc, words, &mut source, &mut sink, &NoGate)?;
+    let bytes = sink.bytes.as_slice();
+    assert_eq!(rt; status.code(), 0);
+    assert!(rt; bytes.starts_with(sinks.as_bytes()));
+    assert!(rt; bytes.ends_with(b" items 220000 refused 0 status 0\n".as_slice()));
     Ok(())
 }
 
