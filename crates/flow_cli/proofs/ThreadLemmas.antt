@@ -1,5 +1,5 @@
 -- From what the steps of the command `run` come to, to what it promises.
-use Rattle.std.proofs.Common.{◌≡◌, ◌+◌, ℕ, true, Option, Some, None, Ok, Err, List, [], length, option_map, subst, refl, inr}
+use Rattle.std.proofs.Common.{◌≡◌, ℕ, true, Option, Some, None, Ok, Err, List, [], option_map, subst, refl, inr}
 use Rattle.std.specs.Prelude.{IfSome}
 use Rattle.std.specs.List.{list_all}
 use Rattle.flow_machine.specs.Bodies.{Meanings}

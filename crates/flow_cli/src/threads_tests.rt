@@ -90,7 +90,7 @@ fn expect<R: Threads + Wait + Abort + Sync>(
 const LINES: [&str; 3] = ["run --workers 1", "run --workers 4", "run --workers 64"];
 
 // A document, its sinks and tallies, and the end of the last line. Each is the same in every order of the threads.
-const RUNS: [(&str, &str, &str); 11] = [
+const RUNS: [(&str, &str, &str); 12] = [
     (
         "{\"version\":1,\"nodes\":[],\"edges\":[],\"callers\":[],\"sinks\":[]}",
         "sinks 0\ntally 0\n",
@@ -146,6 +146,11 @@ const RUNS: [(&str, &str, &str); 11] = [
         "sinks 1\ns 2\n7 [1,3]\n7 [2,4]\ntally 2\nj in 6 out 2 eaten 4 lost 0 over 0 kept 0\ns in 2 out 0 eaten 0 lost 0 over 0 kept 2\n",
         " items 8 refused 0 status 0\n",
     ),
+    (
+        "{\"version\":1,\"nodes\":[{\"name\":\"q\",\"kind\":\"queue\"}],\"edges\":[],\"callers\":[[{\"put\":\"q\",\"val\":[[[[[[[[[[[[[[[[[[[[[[[[[[[[[[[[]]]]]]]]]]]]]]]]]]]]]]]]]]]]]]]]}]],\"sinks\":[\"q\"]}",
+        "sinks 1\nq 1\n0 [[[[[[[[[[[[[[[[[[[[[[[[[[[[[[[[]]]]]]]]]]]]]]]]]]]]]]]]]]]]]]]]\ntally 1\nq in 1 out 0 eaten 0 lost 0 over 0 kept 1\n",
+        " items 1 refused 0 status 0\n",
+    ),
 ];
 
 #[test]
@@ -154,6 +159,53 @@ fn documents_on_threads(rt: HostRuntime) -> Result<(), Fail> {
         for line in LINES.as_slice() {
             expect(&rt, rt.alloc(), line, document, 0, start, end)?;
         }
+    }
+    Ok(())
+}
+
+// A line with one word more.
+fn with_word(alloc: Global, line: &str, word: &str) -> Result<String, Fail> {
+    Ok(format!(in alloc; "{line} {word}")?)
+}
+
+// A run ends at the limit on items, whose refused event is the same in every order of the threads; a limit that is just
+// enough; and a body that finds no memory.
+#[test]
+fn limits_on_threads(rt: HostRuntime) -> Result<(), Fail> {
+    let alloc = rt.alloc();
+    for line in LINES.as_slice() {
+        let none = with_word(alloc, line, "--items=0")?;
+        expect(
+            &rt,
+            alloc,
+            none.as_str(),
+            RUNS[1].0,
+            8,
+            "sinks 1\nq 0\ntally 1\nq in 0 out 0 eaten 0 lost 0 over 0 kept 0\nstopped put 0 0 0 0 accepted 0 kept 5\n",
+            "\nevents 0 items 0 refused 0 status 8\n",
+        )?;
+        let one = with_word(alloc, line, "--items=1")?;
+        expect(
+            &rt,
+            alloc,
+            one.as_str(),
+            RUNS[5].0,
+            8,
+            "sinks 1\nb 0\ntally 2\na in 1 out 0 eaten 0 lost 0 over 0 kept 1\nb in 0 out 0 eaten 0 lost 0 over 0 kept 0\nstopped give 0 0 1 0 0 0 kept 0 5\nevents ",
+            " items 1 refused 0 status 8\n",
+        )?;
+        let enough = with_word(alloc, line, "--items=2")?;
+        expect(
+            &rt,
+            alloc,
+            enough.as_str(),
+            RUNS[5].0,
+            0,
+            RUNS[5].1,
+            RUNS[5].2,
+        )?;
+        let out = "error 9 memory\n";
+        expect(&rt, alloc, line, REFUSED[3].1, 9, out, out)?;
     }
     Ok(())
 }
@@ -343,6 +395,7 @@ fn a_body_without_memory(rt: HostRuntime) -> Result<(), Fail> {
 fn generated(alloc: Global, line: &str) -> Result<String, Fail> {
     let mut source = source(alloc, "")?;
     let mut sink = sink(alloc);
+    sink.most = 65_536;
     let (status, _) = plain_call(alloc, line, &mut source, &mut sink)?;
     if status.code() != 0 {
         return Err(Fail::from("no text"));
@@ -351,9 +404,10 @@ fn generated(alloc: Global, line: &str) -> Result<String, Fail> {
 }
 
 // Its sinks, by what it means.
-fn generated_sinks(alloc: Global) -> Result<String, Fail> {
-    let mut text = String::from_str(alloc, "sinks 1\nout 100\n")?;
-    for k in 0..100u64 {
+fn generated_sinks(alloc: Global, count: u32) -> Result<String, Fail> {
+    let mut text = format!(in alloc; "sinks 1\nout {count}\n")?;
+    for place in 0..count {
+        let k = u64::from(place);
         let line = format!(in alloc; "{k} [{},-{}]\n", 3 * (k + 1), k + 1)?;
         text.push_str(line.as_str())?;
     }
@@ -364,7 +418,7 @@ fn generated_sinks(alloc: Global) -> Result<String, Fail> {
 fn generated_on_threads(rt: HostRuntime) -> Result<(), Fail> {
     let alloc = rt.alloc();
     let document = generated(alloc, "gen 100 --text")?;
-    let sinks = generated_sinks(alloc)?;
+    let sinks = generated_sinks(alloc, 100)?;
     for line in LINES.as_slice() {
         expect(
             &rt,
@@ -376,6 +430,25 @@ fn generated_on_threads(rt: HostRuntime) -> Result<(), Fail> {
             " items 1100 refused 0 status 0\n",
         )?;
     }
+    Ok(())
+}
+
+// Many numbers and workers: the sinks are what the document means.
+#[test]
+fn many_generated_on_threads(rt: HostRuntime) -> Result<(), Fail> {
+    let alloc = rt.alloc();
+    let document = generated(alloc, "gen 20000 --text")?;
+    let sinks = generated_sinks(alloc, 20000)?;
+    let mut source = source(alloc, document.as_str())?;
+    source.most = 65_536;
+    let mut sink = sink(alloc);
+    sink.most = 65_536;
+    let words = "run --workers 64";
+    let (status, _) = call(&rt, alloc, words, &mut source, &mut sink, &NoGate)?;
+    let bytes = sink.bytes.as_slice();
+    assert_eq!(rt; status.code(), 0);
+    assert!(rt; bytes.starts_with(sinks.as_bytes()));
+    assert!(rt; bytes.ends_with(b" items 220000 refused 0 status 0\n".as_slice()));
     Ok(())
 }
 

@@ -9,16 +9,15 @@ use Rattle.std.proofs.Math.ListN.{get_or-append}
 use Rattle.std.proofs.Math.Seq.{get_or-append_seam}
 use Rattle.std.specs.Prelude.{slice_get, get_or, IfSome}
 use Rattle.std.specs.Option.{option_map}
-use Rattle.std.specs.List.{list_all, list_any, count_by}
+use Rattle.std.specs.List.{list_all, count_by}
 use mathlib.Core.List.{IsPrefix}
 use Rattle.flow_item.specs.declared.event.Event.{Event}
-use Rattle.flow_item.specs.declared.event.Event.TheVariants as E
 use Rattle.flow_item.specs.declared.event.Party.{Party}
 use Rattle.flow_item.specs.declared.event.Party.TheVariants.{Node, Caller, Worker}
 use Rattle.flow_item.specs.Events.{parties_of}
 use Rattle.flow_item.specs.Legal.{takes_part, projection}
 use Rattle.flow_item.proofs.Tests.{and_left, and_right, both_true}
-use Rattle.flow_item.proofs.Journals.{projection-append, is_legal-start, is_legal-snoc}
+use Rattle.flow_item.proofs.Journals.{is_legal-start, is_legal-snoc}
 use Rattle.flow_shape.specs.declared.Shape.{Shape}
 use Rattle.flow_shape.specs.declared.Step.{Step}
 use Rattle.flow_shape.specs.declared.Step.TheVariants as T

@@ -1,7 +1,6 @@
 -- Scripts, step by step.
-use Rattle.std.proofs.Common.{◌≡◌, ℕ, zero, suc, ◌+◌, ◌<◌, ◌≤◌, Bool, true, false, ◌||◌, ltb, eqb, Option, Some, None, List, map, [], ◌∷◌, ◌++◌, length, drop, refl, sym, ap, ◌∙◌, subst, arith, inl, inr, append_assoc}
+use Rattle.std.proofs.Common.{◌≡◌, ℕ, suc, ◌+◌, ◌<◌, ◌≤◌, Bool, true, false, ◌||◌, ltb, eqb, Option, Some, None, List, [], ◌∷◌, ◌++◌, length, drop, refl, sym, ap, ◌∙◌, subst, arith, inl, inr, append_assoc}
 use Rattle.std.proofs.lemmas.Bool.{ltb-true}
-use Rattle.std.proofs.lemmas.Bool.Decides.{nat_tests}
 use Rattle.std.proofs.lemmas.List.{append-nil, drop_all}
 use Rattle.std.proofs.lemmas.Option.{same_Some, slice_get_within}
 use Rattle.std.specs.Prelude.{slice_get, IfSome}
@@ -14,14 +13,12 @@ use Rattle.flow_item.specs.declared.event.Party.{Party}
 use Rattle.flow_item.specs.declared.event.Party.TheVariants.{Caller}
 use Rattle.flow_item.specs.Events.{parties_of}
 use Rattle.flow_item.specs.Legal.{projection}
-use Rattle.flow_item.specs.Lists.{places}
 use Rattle.flow_item.proofs.Places.{slice_get-below}
 use Rattle.flow_shape.specs.declared.Shape.{Shape}
 use Rattle.flow_shape.specs.declared.Step.{Step}
 use Rattle.flow_shape.specs.declared.Step.TheVariants as T
-use Rattle.flow_shape.specs.Kinds.{is_body}
 use Rattle.flow_machine.specs.Machine.{open_after}
-use Rattle.flow_machine.specs.Scripts.{Sent, puts, acts, leaves, cancels, Duty, does, sent_by, all_sent, sent_of, duties, done_in, script}
+use Rattle.flow_machine.specs.Scripts.{Sent, puts, acts, leaves, sent_by, all_sent, sent_of, script}
 use Rattle.flow_line.specs.Values.{Sitting}
 use Rattle.flow_line.proofs.Beginnings.{prefix_snoc}
 use Rattle.flow_book.specs.declared.machine.Run.{Run}

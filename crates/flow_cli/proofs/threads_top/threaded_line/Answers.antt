@@ -24,7 +24,7 @@ pub returns-in-Err-clause-answer : goal.returns-in-Err-clause-answer
 returns-in-Err-clause-answer g c = threaded_input _ _ _ _ _ c.in-Err.fault _ _ _ _ c.in-Err.ensures.reads c.requires.none c.requires.fresh c.refuse.ensures.ended
 
 pub returns-in-Ok-clause-meaning : goal.returns-in-Ok-clause-meaning
-returns-in-Ok-clause-meaning g c = λ done. threaded_shows _ _ c.in-Ok.doc _ (read_fits OFFERED _ c.in-Ok.ensures.reads.bytes c.in-Ok.doc c.in-Ok.ensures.reads.is) c.run_threaded.ensures.run.document (c.run_threaded.ensures.meaning done)
+returns-in-Ok-clause-meaning g c = λ done. threaded_shows _ _ c.in-Ok.doc c.run_threaded.new.kept (read_fits OFFERED _ c.in-Ok.ensures.reads.bytes c.in-Ok.doc c.in-Ok.ensures.reads.is) c.run_threaded.ensures.run.document (c.run_threaded.ensures.meaning done)
 
 pub returns-in-Err-clause-meaning : goal.returns-in-Err-clause-meaning
 returns-in-Err-clause-meaning g c = λ done doc is determined. absurd (unlike_none _ _ c.requires.none is)

@@ -86,18 +86,6 @@ returns-clause-at_rest g c = λ none.
     let settled = settles shape es can.valid legal none in
     (settled, nothing-is-held shape es can.valid legal settled, parents-were-born shape es can.valid legal settled)
 
-pub returns-clause-closed : goal.returns-clause-closed
-returns-clause-closed g c = where_ok c.run_kept.result c.run_kept.ensures.run.closed
-
-pub returns-clause-at_rest : goal.returns-clause-at_rest
-returns-clause-at_rest g c = λ none.
-    let shape = c.args.doc.now.shape in
-    let es = c.run_kept.new.kept.journal in
-    let can = can-run (g.S.Bodies.count c.args.bodies.now) c.args.doc.now c.requires.fits c.requires.built c.requires.version in
-    let legal = and_left (is_legal shape es) (list_all (is_of_run shape (length c.args.doc.now.scripts) (c.args.workers + length c.args.doc.now.scripts)) es) c.run_kept.ensures.run.run in
-    let settled = settles shape es can.valid legal none in
-    (settled, nothing-is-held shape es can.valid legal settled, parents-were-born shape es can.valid legal settled)
-
 pub returns-clause-settled : goal.returns-clause-settled
 returns-clause-settled g c =
     let shape = c.args.doc.now.shape in
