@@ -1,5 +1,5 @@
 -- A line of one caller and one queue.
-use Rattle.std.specs.Prelude.{◌≡◌, ℕ, None, [], ◌∷◌}
+use Rattle.std.specs.Prelude.{◌≡◌, ℕ, None}
 use Rattle.flow_item.specs.declared.event.Event.{Event}
 use Rattle.flow_item.specs.declared.event.Party.{Party}
 use Rattle.flow_item.specs.declared.event.Party.TheVariants.{Caller, Node}
