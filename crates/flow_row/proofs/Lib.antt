@@ -1,3 +1,4 @@
 mod Calls
 mod Nodes
+mod Lines
 mod SentRow

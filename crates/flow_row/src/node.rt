@@ -16,7 +16,7 @@ use std::sync::Wait;
 use std::test::*;
 
 // A graph of this node alone.
-fn alone(alloc: Global, kind: Kind) -> Result<Shape, NoMemory>
+pub fn alone(alloc: Global, kind: Kind) -> Result<Shape, NoMemory>
     ensures { IfOk result (λ s. s ≡ one_node kind) }
 {
     let mut nodes = Vec::new(alloc);
@@ -243,7 +243,7 @@ fn bring_back<B: Naming, R: Wait + Abort>(
 }
 
 // A list of this chair.
-fn one_chair<B: Naming, R: Abort>(
+pub fn one_chair<B: Naming, R: Abort>(
     rt: &R,
     alloc: Global,
     chair: Chair<GraphMachine, B>,
