@@ -1,5 +1,5 @@
 #!/usr/bin/env python3
-"""Measures puts and serves of a book over two queues in a row (crates/flow_row) beside an ordinary program on threads.
+"""Measures puts and serves of a book over two queues in a row (`flow_bench row`) beside an ordinary program on threads.
 
 Ours has 1, 2 and 4 threads, each of which puts and serves by turns. The yardstick reads a document of the same
 two queues with as many callers, and has as many workers beside them. Both make the same puts, in turn, round by round.
@@ -12,7 +12,7 @@ import subprocess
 import time
 
 HERE = os.path.dirname(os.path.abspath(__file__))
-ROW = os.path.join(HERE, "..", "crates", "flow_row", "out", "flow_row")
+BENCH = os.path.join(HERE, "..", "crates", "flow_bench", "out", "flow_bench")
 
 
 def document(callers, puts):
@@ -27,7 +27,7 @@ def document(callers, puts):
 def row(program, threads, puts):
     """Seconds and events of one run of ours, from the start of the process to its end."""
     begin = time.perf_counter()
-    said = subprocess.run([program, str(threads), str(puts)], check=True, capture_output=True, text=True)
+    said = subprocess.run([program, "row", str(threads), str(puts)], check=True, capture_output=True, text=True)
     seconds = time.perf_counter() - begin
     events = int(said.stdout)
     if events < 2 * threads * puts:
@@ -46,7 +46,7 @@ def yardstick(program, workers, text):
 
 def main():
     said = argparse.ArgumentParser(description=__doc__)
-    said.add_argument("--row", default=ROW, help="the program; crates/flow_row/out/flow_row by default")
+    said.add_argument("--bench", default=BENCH, help="the program; crates/flow_bench/out/flow_bench by default")
     said.add_argument("--yardstick", help="a program that takes the words run, --workers N and --items N")
     said.add_argument("--rounds", type=int, default=7, help="counted rounds; one before them isn't counted")
     said.add_argument("--puts", type=int, default=400_000, help="puts in all, shared out to the threads")
@@ -58,7 +58,7 @@ def main():
         for threads in (1, 2, 4):
             for name in programs:
                 if name == "row":
-                    one = row(given.row, threads, given.puts // threads)
+                    one = row(given.bench, threads, given.puts // threads)
                 else:
                     one = yardstick(given.yardstick, threads, texts[threads])
                 if number:

@@ -1,5 +1,5 @@
 #!/usr/bin/env python3
-"""Measures commits of the shared journal (crates/flow_bench) beside a plain list behind one lock (bench/mutex.rs).
+"""Measures commits of the shared journal (`flow_bench line`) beside a plain list behind one lock (bench/mutex.rs).
 
 Both make the same events from 1, 2 and 4 threads, of one party and of two, in turn, round by round.
 """
@@ -14,13 +14,13 @@ HERE = os.path.dirname(os.path.abspath(__file__))
 BENCH = os.path.join(HERE, "..", "crates", "flow_bench", "out", "flow_bench")
 
 
-def timed(program, threads, commits, parties):
+def timed(words, threads, commits, parties):
     """Seconds of one run, whose one printed number is checked."""
     begin = time.perf_counter()
-    said = subprocess.run([program, str(threads), str(commits), str(parties)], check=True, capture_output=True, text=True)
+    said = subprocess.run([*words, str(threads), str(commits), str(parties)], check=True, capture_output=True, text=True)
     seconds = time.perf_counter() - begin
     if said.stdout.strip() != str(threads * commits):
-        raise SystemExit("%s printed %r" % (program, said.stdout))
+        raise SystemExit("%s printed %r" % (words[0], said.stdout))
     return seconds
 
 
@@ -38,8 +38,8 @@ def main():
         for number in range(given.rounds + 1):
             for case in cases:
                 threads, parties = case
-                for name, program in (("line", given.bench), ("mutex", mutex)):
-                    seconds = timed(program, threads, given.commits // threads, parties)
+                for name, words in (("line", [given.bench, "line"]), ("mutex", [mutex])):
+                    seconds = timed(words, threads, given.commits // threads, parties)
                     if number:
                         times.setdefault((case, name), []).append(seconds)
     print("| Threads | Parties | Line | List behind a lock | Ratio |")

@@ -3,8 +3,12 @@
 //! settled, and `flow gen N` the summary of the run of a document of N numbers.
 #![tactic(auto)]
 
+ghost use Rattle.std.specs.Prelude.{◌≡◌, true, length, map};
+ghost use Rattle.flow_gen.specs.Generated.{has_bodies};
+
 use flow_body::{
-    Add, Builtins, CountTo, Echo, FailMemory, Len, Mul, Neg, Pair, Part, SplitEven, builtin_shelf,
+    Add, Builtins, CountTo, Echo, FailMemory, Len, Mul, Neg, Pair, Part, Shelf, SplitEven,
+    builtin_shelf,
 };
 use flow_cli::{flow_top, plain_top, tell_no_memory};
 use flow_doc::Kept;
@@ -41,6 +45,54 @@ fn names_run(words: &[String]) -> bool {
     }
 }
 
+/// Serves the command that waits with the built-in bodies.
+fn serve_run<R: Threads + Wait + Sync, S: Source, K: Sink>(
+    rt: &R,
+    alloc: Global,
+    words: &[String],
+    source: &mut S,
+    sink: &mut K,
+    shelf: &Shelf,
+) -> Status
+    requires count { 10 ≡ length shelf.now.bodies.items }
+{
+    let mut kept = Kept::new(alloc);
+    flow_top(
+        rt, alloc, words, source, sink, shelf, &Builtin, &NoGate, &mut kept,
+    )
+}
+
+/// Serves the other commands with the built-in bodies.
+fn serve_plain<S: Source, K: Sink>(
+    alloc: Global,
+    words: &[String],
+    source: &mut S,
+    sink: &mut K,
+    shelf: &Shelf,
+) -> Status
+    requires generated { has_bodies (map (λ b. b.name) shelf.now.bodies.items) ≡ true }
+{
+    let mut kept = Kept::new(alloc);
+    plain_top(alloc, words, source, sink, shelf, &mut kept)
+}
+
+/// Serves the words with these bodies.
+fn serve_with<R: Threads + Wait + Sync, S: Source, K: Sink>(
+    rt: &R,
+    alloc: Global,
+    words: &[String],
+    source: &mut S,
+    sink: &mut K,
+    bodies: Builtins,
+) -> Result<Status, NoMemory> {
+    let shelf = builtin_shelf(alloc, bodies)?;
+    if names_run(words) {
+        Ok(serve_run(rt, alloc, words, source, sink, &shelf))
+    } else {
+        Ok(serve_plain(alloc, words, source, sink, &shelf))
+    }
+}
+
 /// Serves the words with the built-in bodies.
 fn serve<R: Threads + Wait + Sync, S: Source, K: Sink>(
     rt: &R,
@@ -61,15 +113,7 @@ fn serve<R: Threads + Wait + Sync, S: Source, K: Sink>(
         count_to: Box::new(alloc, CountTo)?,
         fail_memory: Box::new(alloc, FailMemory)?,
     };
-    let shelf = builtin_shelf(alloc, bodies)?;
-    let mut kept = Kept::new(alloc);
-    if names_run(words) {
-        Ok(flow_top(
-            rt, alloc, words, source, sink, &shelf, &Builtin, &NoGate, &mut kept,
-        ))
-    } else {
-        Ok(plain_top(alloc, words, source, sink, &shelf, &mut kept))
-    }
+    serve_with(rt, alloc, words, source, sink, bodies)
 }
 
 fn main(rt: HostRuntime) -> ExitCode {

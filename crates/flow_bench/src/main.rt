@@ -1,42 +1,30 @@
-//! Times the shared journal: `flow_bench THREADS COMMITS PARTIES` makes so many commits of one party or of two from so
-//! many threads, at most four, and prints how many events the closed journal has.
+//! Times the shared journal and the book. `flow_bench line THREADS COMMITS PARTIES` makes so many commits of one party or
+//! of two from so many threads, at most four. `flow_bench row THREADS PUTS` has so many threads, at most four, put so
+//! often each into two queues in a row and serve after each put. Each prints how many events the closed journal has. A
+//! second measure may follow the first.
 #![tactic(auto)]
 
+mod line;
 mod turns;
 
-ghost use Rattle.std.specs.Prelude.{◌≡◌};
-
-use crate::turns::{Pair, Turns};
-use flow_item::{NoMemory, Party};
-use flow_line::{Chairs, Line, Naming, Opened};
+use crate::line::Load;
+use crate::turns::Turns;
+use flow_book::GraphMachine;
+use flow_item::NoMemory;
+use flow_line::Opened;
 use std::alloc::Global;
+use std::env;
+use std::env::Args;
 use std::io::Error;
 use std::marker::Brand;
-use std::process::ExitCode;
 use std::sync::Wait;
 use std::thread::Threads;
-use std::{env, thread};
-
-const PARTIES: [Party; 8] = [
-    Party::Node(0),
-    Party::Caller(0),
-    Party::Node(1),
-    Party::Caller(1),
-    Party::Node(2),
-    Party::Caller(2),
-    Party::Node(3),
-    Party::Caller(3),
-];
-
-/// Events that a line of the benchmark may have.
-const MOST: u64 = 100000000;
 
 /// What is asked for.
 #[derive(Drop)]
-struct Load {
-    threads: usize,
-    commits: u64,
-    parties: u64,
+enum Measure {
+    Line(Load),
+    Row { threads: u64, puts: u64 },
 }
 
 /// The number that a word spells, or 1.
@@ -47,83 +35,75 @@ fn number(word: Option<String>) -> u64 {
     }
 }
 
-/// The load that the words after the program's name ask for.
-fn asked(rt: &HostRuntime) -> Result<Load, Error> {
-    let mut args = env::args(rt)?;
-    let _ = args.next();
+/// The load that the next words ask for.
+fn load(args: &mut Args) -> Load {
     let threads = number(args.next());
     let commits = number(args.next());
     let parties = number(args.next());
-    Ok(Load {
+    Load {
         threads: if threads < 4 { threads as usize } else { 4 },
         commits,
         parties,
-    })
-}
-
-/// Pairs of chairs, each with its share of the moves.
-fn pairs<B: Naming>(
-    alloc: Global,
-    chairs: &mut Chairs<Turns, B>,
-    load: &Load,
-) -> Result<Vec<Pair<B>>, NoMemory> {
-    let mut pairs = Vec::new(alloc);
-    for k in 0..4_usize {
-        let share = if k < load.threads { load.commits } else { 0 };
-        if let (Some(caller), Some(node)) = (chairs.pop(), chairs.pop()) {
-            pairs
-                .push(Pair {
-                    node,
-                    caller,
-                    share,
-                })
-                .map_err(|_| NoMemory)?;
-        }
     }
-    Ok(pairs)
 }
 
-/// The chairs of the pairs in one list.
-fn all_chairs<B: Naming>(alloc: Global, pairs: Vec<Pair<B>>) -> Result<Chairs<Turns, B>, NoMemory> {
-    let mut chairs = Chairs::new(alloc);
-    for pair in pairs {
-        if chairs.push(pair.node).is_err() || chairs.push(pair.caller).is_err() {
-            return Err(NoMemory);
+/// The measure that the next words ask for.
+fn asked(args: &mut Args) -> Option<Measure> {
+    match args.next()?.as_str() {
+        "line" => Some(Measure::Line(load(args))),
+        "row" => {
+            let threads = number(args.next());
+            let puts = number(args.next());
+            Some(Measure::Row { threads, puts })
         }
+        _ => None,
     }
-    Ok(chairs)
 }
 
-/// How many events there are after all moves.
-fn run<B: Naming + Send + Sync, R: Threads + Wait + Sync>(
+/// The number of events that a line has after the commits.
+fn committed<R: Threads + Wait + Sync>(
     rt: &R,
     alloc: Global,
     load: &Load,
-    opened: Opened<Turns>,
-) -> Result<usize, NoMemory>
-    requires name { opened ≡ B.table }
-{
-    let (line, mut chairs) = Line::new(alloc, &(), &PARTIES, MOST, MOST, opened)?;
-    let mut pairs = pairs::<B>(alloc, &mut chairs, load)?;
-    let both = load.parties > 1;
-    thread::for_each_mut(
-        rt,
-        pairs.as_mut_slice(),
-        4,
-        &|_, pair: &mut Pair<B>| { pair.move_on(rt, &line, both) },
-    );
-    let journal = line.close(all_chairs(alloc, pairs)?);
-    Ok(journal.len())
+) -> Result<usize, NoMemory> {
+    let opened = Opened::<Turns>::new(alloc)?;
+    line::run::<Brand, _>(rt, alloc, load, opened)
+}
+
+/// The number of events that a book has after the puts.
+fn put<R: Threads + Wait + Sync>(
+    rt: &R,
+    alloc: Global,
+    threads: u64,
+    puts: u64,
+) -> Result<usize, NoMemory> {
+    let opened = Opened::<GraphMachine>::new(alloc)?;
+    let ran = flow_row::run::<Brand, _>(rt, alloc, threads, puts, opened)?;
+    Ok(ran.journal.len())
+}
+
+/// The number of events that are made.
+fn measured<R: Threads + Wait + Sync>(
+    rt: &R,
+    alloc: Global,
+    measure: Measure,
+) -> Result<usize, NoMemory> {
+    match measure {
+        Measure::Line(load) => committed(rt, alloc, &load),
+        Measure::Row { threads, puts } => put(rt, alloc, threads, puts),
+    }
 }
 
 fn main(rt: HostRuntime) -> Result<(), Error> {
-    let load = asked(&rt)?;
-    let alloc = rt.alloc();
-    let Ok(opened) = Opened::<Turns>::new(alloc) else {
-        return Ok(());
-    };
-    match run::<Brand, _>(&rt, alloc, &load, opened) {
-        Ok(len) => println!(rt; "{len}"),
-        Err(NoMemory) => println!(rt; "no memory"),
+    let mut args = env::args(&rt)?;
+    let _ = args.next();
+    for _ in 0..2 {
+        if let Some(measure) = asked(&mut args) {
+            match measured(&rt, rt.alloc(), measure) {
+                Ok(len) => println!(rt; "{len}")?,
+                Err(NoMemory) => println!(rt; "no memory")?,
+            }
+        }
     }
+    Ok(())
 }

@@ -34,8 +34,8 @@ use Rattle.flow_loop.proofs.Unlimited.{is_free, tamed_as_determinate}
 use Rattle.flow_io.specs.Streams.{Grows, GrowsByPart}
 use Rattle.flow_print.specs.declared.status.Status.{Status}
 use Rattle.flow_print.specs.declared.status.Status.TheVariants as S
-use Rattle.flow_print.specs.Words.{line, with_newline, lines}
-use Rattle.flow_print.specs.Sinks.{name_of, pair_line, sink_lines, sinks_line, all_sink_lines, sinks_section}
+use Rattle.flow_report.specs.Words.{line, with_newline, lines}
+use Rattle.flow_report.specs.Sinks.{name_of, pair_line, sink_lines, sinks_line, all_sink_lines, sinks_section}
 use Rattle.flow_print.specs.Faults.{words_text, memory_text, fault_status}
 use Rattle.flow_print.specs.Outputs.{Ending, bad_words, unread, no_memory, bad_document, bad_line, output, ending_status, IsWritten}
 use Rattle.flow_work.specs.Promises.{IsFresh}

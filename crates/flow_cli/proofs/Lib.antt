@@ -7,4 +7,3 @@ mod CheckLemmas
 mod MeaningLemmas
 mod RunWordLemmas
 mod ThreadLemmas
-pub mod ShelfLengths

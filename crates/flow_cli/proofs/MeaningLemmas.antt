@@ -15,7 +15,7 @@ use Rattle.flow_determinacy.specs.Laws.{follows}
 use Rattle.flow_determinacy.proofs.Results.{one-result, section-meant}
 use Rattle.flow_print.specs.declared.status.Status.{Status}
 use Rattle.flow_print.specs.declared.status.Status.TheVariants as S
-use Rattle.flow_print.specs.Sinks.{sink_pairs, sinks_section}
+use Rattle.flow_report.specs.Sinks.{sink_pairs, sinks_section}
 use Rattle.flow_work.specs.Results.{KeepsMeaning}
 use Rattle.flow_work.proofs.MeaningLemmas.{kept_whole, done_whole}
 use Rattle.flow_cli.specs.declared.input.TheConstants.{OFFERED}

@@ -12,7 +12,7 @@ use Rattle.flow_io.specs.Whole.{Took}
 use Rattle.flow_print.specs.declared.status.Status.{Status}
 use Rattle.flow_print.specs.declared.status.Status.TheVariants as S
 use Rattle.flow_print.specs.Faults.{fault_status}
-use Rattle.flow_print.specs.Sinks.{sink_pairs, sinks_section}
+use Rattle.flow_report.specs.Sinks.{sink_pairs, sinks_section}
 use Rattle.flow_print.specs.Outputs.{Ending, bad_words, unread, no_memory, bad_document, bad_line, output, IsWritten}
 use Rattle.flow_work.specs.Promises.{IsFresh}
 use Rattle.flow_cli.specs.declared.input.TheConstants.{OFFERED}

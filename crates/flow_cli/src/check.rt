@@ -9,7 +9,7 @@ ghost use Rattle.flow_mean.specs.Determinate.{IsDeterminate};
 ghost use Rattle.flow_mean.specs.Whole.{IsWhole, meant_at};
 ghost use Rattle.flow_node.specs.Built.{is_built};
 ghost use Rattle.flow_print.specs.Outputs.{output};
-ghost use Rattle.flow_print.specs.Words.{with_newline};
+ghost use Rattle.flow_report.specs.Words.{with_newline};
 ghost use Rattle.flow_work.specs.Promises.{IsFresh};
 ghost use Rattle.flow_cli.specs.Words.{check_asked};
 ghost use Rattle.flow_cli.specs.Check.{check_text, loose_line, loose_word};

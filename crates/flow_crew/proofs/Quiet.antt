@@ -144,4 +144,4 @@ module _ (shape : Shape) (callers workers : ℕ) (es : List Event) where
           let some = one-true (state_of shape n at.0 es).due due in
           let none = closed-node closed n at.0 at.1 in
           omega (arith, some, none)
-      by_event e h of = moves e h (search rules)
+      by_event e h of = moves e h refl

@@ -32,10 +32,3 @@ pub use graph::Graph;
 pub use parts::Parts;
 pub use waited::Waited;
 pub use worker::Worker;
-
-#[cfg(test)]
-mod tests;
-#[cfg(test)]
-mod threads_tests;
-#[cfg(test)]
-mod trials;

@@ -6,7 +6,7 @@ use Rattle.std.specs.Cmp.Lexicographic.{bytes_decides}
 use Rattle.std.proofs.lemmas.Option.{slice_get_within}
 use Rattle.flow_body.specs.Shelves.{first_place}
 use Rattle.flow_doc.specs.Fields.{place_from}
-use Rattle.flow_print.specs.Sinks.{name_of, text_or_empty}
+use Rattle.flow_report.specs.Sinks.{name_of, text_or_empty}
 use Rattle.flow_gen.specs.Generated.{generated, generated_from, has_bodies}
 
 -- what is found at a place has the name

@@ -9,7 +9,7 @@ use Rattle.flow_doc.specs.Fields.{place_from}
 use Rattle.flow_doc.proofs.OnLiterals.{documents_compute}
 use Rattle.serde_json.specs.Data.{Data, string}
 use Rattle.flow_print.specs.DocText.{Member, object_of, list_data, count, edge_data, step_data, doc_data, doc_text, doc_output}
-use Rattle.flow_print.specs.Sinks.{name_of}
+use Rattle.flow_report.specs.Sinks.{name_of}
 use Rattle.flow_gen.specs.Generated.{generated, generated_text, generated_names, generated_edges, generated_script, has_bodies}
 use Rattle.flow_gen.proofs.Numbers.{rest, rest_more, own_is, own_not}
 use Rattle.flow_gen.proofs.Places.{found_name}

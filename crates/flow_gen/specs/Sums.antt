@@ -6,7 +6,7 @@ use Rattle.flow_item.specs.declared.val.Val.{Val}
 use Rattle.flow_item.specs.declared.item.Item.{Item}
 use Rattle.flow_item.specs.Pairs.{Pair}
 use Rattle.flow_node.specs.Readied.{Readied}
-use Rattle.flow_print.specs.Words.{line, lines}
+use Rattle.flow_report.specs.Words.{line, lines}
 use Rattle.flow_print.specs.Replayed.{pairs_of}
 use Rattle.flow_gen.specs.Generated.{whole_sum}
 

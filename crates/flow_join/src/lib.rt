@@ -9,6 +9,3 @@ mod tags;
 
 pub use key::KeyJoin;
 pub use queue::QueueJoin;
-
-#[cfg(test)]
-mod tests;

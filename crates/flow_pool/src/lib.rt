@@ -29,6 +29,3 @@ pub use hand::{Fair, Hand};
 pub use law::who_is_alone_took_all;
 pub use pool::Pool;
 pub use post::Post;
-
-#[cfg(test)]
-mod tests;

@@ -5,8 +5,8 @@ use Rattle.flow_io.specs.Streams.{Grows}
 use Rattle.flow_doc.specs.declared.Doc.{Doc}
 use Rattle.flow_doc.specs.declared.Life.{Life}
 use Rattle.flow_print.specs.declared.status.Status.{Status}
-use Rattle.flow_print.specs.Words.{with_newline}
-use Rattle.flow_print.specs.Sinks.{sink_pairs, sinks_line, all_sink_lines}
+use Rattle.flow_report.specs.Words.{with_newline}
+use Rattle.flow_report.specs.Sinks.{sink_pairs, sinks_line, all_sink_lines}
 use Rattle.flow_print.specs.Report.{tally_section, live_section, journal_section, cancelled_lines, cancelled_count, stopped_lines, last_line}
 
 -- what is written grew by a first part of the text that isn't empty

@@ -1,10 +1,10 @@
 // A sinks section by itself, under a line of its own.
 ghost use Rattle.std.specs.Prelude.{◌≡◌, true, ◌∷◌, string_bytes, IfOk, OnOk, OnErr, IsErrOf};
 ghost use Rattle.flow_io.specs.Streams.{Grows, GrowsByPart};
-ghost use Rattle.flow_print.specs.Words.{lines};
+ghost use Rattle.flow_report.specs.Words.{lines};
 ghost use Rattle.flow_print.specs.Begun.{GrowsByStart};
 ghost use Rattle.flow_print.specs.Pages.{Moves, Stops, HasReason};
-ghost use Rattle.flow_print.specs.Sinks.{sinks_line, sinks_section};
+ghost use Rattle.flow_report.specs.Sinks.{sinks_line, sinks_section};
 
 use crate::holdings::Holdings;
 use crate::pages::print_line;

@@ -1,4 +1,2 @@
-mod Calls
-mod Nodes
-mod Lines
+pub mod Calls
 mod SentRow

@@ -21,6 +21,3 @@ mod run;
 
 pub use flow_crew::{Bodies, Builtin, Gate, NoGate, Point};
 pub use run::{run_all, run_all_with_nodes};
-
-#[cfg(test)]
-mod tests;

@@ -1,7 +1,6 @@
 mod Counting
 mod Firsts
 mod Marking
-mod Playing
 mod RankSteps
 mod Ranking
 mod Rising

@@ -18,6 +18,3 @@ pub use one::OneStore;
 pub use rank::RankStore;
 pub use seq::SeqStore;
 pub use store::{Store, Way};
-
-#[cfg(test)]
-mod tests;

@@ -6,7 +6,7 @@ use Rattle.flow_shape.specs.declared.Kind.{Kind}
 use Rattle.flow_shape.specs.Kinds.{inputs}
 use Rattle.flow_machine.specs.Bodies.{Meanings}
 use Rattle.flow_doc.specs.declared.Doc.{Doc}
-use Rattle.flow_print.specs.Sinks.{sink_pairs}
+use Rattle.flow_report.specs.Sinks.{sink_pairs}
 use Rattle.flow_mean.specs.Maps.{map_of, has_repeat}
 use Rattle.flow_mean.specs.Meaning.{arrives, meaning}
 use Rattle.flow_mean.specs.Determinate.{IsDeterminate}

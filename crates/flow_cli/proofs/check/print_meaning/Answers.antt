@@ -1,5 +1,5 @@
 use Rattle.std.proofs.Common.{◌≡◌, ◌<◌, ◌∷◌, ℕ, Ok, ap, sym, ◌∙◌, codes, Option, List, subst, rules}
-use Rattle.flow_print.specs.Words.{lines}
+use Rattle.flow_report.specs.Words.{lines}
 use Rattle.flow_cli.specs.Check.{check_lines, check_text}
 use Rattle.flow_cli.proofs.CheckLemmas.{meant_text, meant_whole, meant_part, meant_cut, no_memory_after}
 use Rattle.flow_cli.proofs.check.print_meaning.Goals as goal

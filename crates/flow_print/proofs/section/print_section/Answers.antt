@@ -1,5 +1,5 @@
 use Rattle.std.proofs.Common.{◌≡◌, ◌∷◌, [], rules}
-use Rattle.flow_print.specs.Sinks.{sinks_line, all_sink_lines}
+use Rattle.flow_report.specs.Sinks.{sinks_line, all_sink_lines}
 use Rattle.flow_print.proofs.Moving.{on_err, stops_here, stops_section, stops_wider, stops_same, moves_section}
 use Rattle.flow_print.proofs.Reporting.{moves_same, one_same}
 use Rattle.flow_print.proofs.section.print_section.Goals as goal

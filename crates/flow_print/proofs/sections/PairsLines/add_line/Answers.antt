@@ -1,7 +1,7 @@
 use Rattle.std.proofs.lemmas.Option.{slice_get-map}
 use Rattle.std.proofs.Common.{Some, map, slice_get, sym, ap, ◌∙◌}
 use Rattle.std.specs.Option.{option_map}
-use Rattle.flow_print.specs.Sinks.{pair_line}
+use Rattle.flow_report.specs.Sinks.{pair_line}
 use Rattle.flow_print.proofs.Moving.{adds_found}
 use Rattle.flow_print.proofs.sections.PairsLines.add_line.Goals as goal
 

@@ -1,0 +1,4 @@
+use Rattle.flow_bench.proofs.put.Given as goal
+
+abbrev pub ghosts-run : goal.ghosts-run
+ghosts-run g a = record { table = a.opened }

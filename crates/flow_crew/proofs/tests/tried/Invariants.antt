@@ -1,4 +1,0 @@
-use Rattle.flow_crew.proofs.tests.tried.Given as goal
-
-abbrev pub ghosts-tried_named : goal.ghosts-tried_named
-ghosts-tried_named g a = record { table = a.opened }

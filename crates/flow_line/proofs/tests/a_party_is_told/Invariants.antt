@@ -1,4 +1,0 @@
-use Rattle.flow_line.proofs.tests.a_party_is_told.Given as goal
-
-abbrev pub ghosts-tell_of_a_move : goal.ghosts-tell_of_a_move
-ghosts-tell_of_a_move g a = record { table = a.opened }

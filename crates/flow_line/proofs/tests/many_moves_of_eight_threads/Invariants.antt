@@ -1,4 +1,0 @@
-use Rattle.flow_line.proofs.tests.many_moves_of_eight_threads.Given as goal
-
-abbrev pub ghosts-eight_threads : goal.ghosts-eight_threads
-ghosts-eight_threads g a = record { table = a.opened }

@@ -1,7 +1,0 @@
-use Rattle.flow_node.proofs.TestLemmas.{wish-shuts}
-use Rattle.flow_node.proofs.tests.shut.Goals as goal
-
-pub apply_one-requires-clause-allowed : goal.apply_one-requires-clause-allowed
-apply_one-requires-clause-allowed c =
-    let v = c.args.node.now.node in
-    rw (c.prepare.ensures.same) (wish-shuts v.place v.state c.in-Shut.item c.in-Shut.ended c.in-Shut.ensures)

@@ -1,4 +1,0 @@
-use Rattle.flow_row.proofs.commits.a_leave_past_the_events_comes_back.Given as goal
-
-abbrev pub ghosts-leave_refused : goal.ghosts-leave_refused
-ghosts-leave_refused g a = record { table = a.opened }

@@ -1,4 +1,0 @@
-use Rattle.flow_row.proofs.commits.a_put_is_of_both.Given as goal
-
-abbrev pub ghosts-put_made : goal.ghosts-put_made
-ghosts-put_made g a = record { table = a.opened }

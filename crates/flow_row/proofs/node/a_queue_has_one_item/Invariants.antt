@@ -1,4 +1,0 @@
-use Rattle.flow_row.proofs.node.a_queue_has_one_item.Given as goal
-
-abbrev pub ghosts-one_item : goal.ghosts-one_item
-ghosts-one_item g a = record { table = a.opened }

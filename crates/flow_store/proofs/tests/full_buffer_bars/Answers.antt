@@ -1,9 +1,0 @@
-use Rattle.std.proofs.Common.{refl}
-use Rattle.flow_store.specs.Stores.{queue_of}
-use Rattle.flow_store.proofs.tests.full_buffer_bars.Goals as goal
-
-pub hold-requires : goal.hold-requires
-hold-requires g c = (queue_of c.loop-number.store, refl)
-
-pub take-requires-clause-single : goal.take-requires-clause-single
-take-requires-clause-single g c = (queue_of c.hold.new.store, refl)

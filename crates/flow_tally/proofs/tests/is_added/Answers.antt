@@ -1,4 +1,0 @@
-use Rattle.flow_tally.proofs.tests.is_added.Goals as goal
-
-pub add-requires-clause-fits : goal.add-requires-clause-fits
-add-requires-clause-fits c = c.two_are_small-small.ensures.fits c.if-small.true
