@@ -13,9 +13,10 @@ count for each.
   tools/gate_time.py                       the whole gate, from nothing
   tools/gate_time.py --names NAME..        these crates and those below them (no gate)
   tools/gate_time.py --kept                without --anew: what earlier runs on this machine passed stays passed
+  tools/gate_time.py --beside PID          starts nothing: looks at the 'rt ci' that this process starts (.ci/run does so)
 
 The table is Markdown. The log of rt stays in a file, whose name and last line are printed. The clone is removed. The exit
-status is that of rt."""
+status is that of rt, or 0 with --beside, where the sum is what was last seen of rt and all that it started."""
 import argparse
 import collections
 import os
@@ -101,6 +102,14 @@ class Sample:
     def seconds(self, leader):
         return sum(self.ticks[it] for it in self.groups[leader]) / TICKS
 
+    def whole(self, top):
+        """The time of this process and of all that it started."""
+        return (self.ticks.get(top, 0) + sum(self.ticks[it] for pids in self.groups.values() for it in pids)) / TICKS
+
+    def child(self, top, *ends):
+        """The process that this one started and whose words end so, if there is one."""
+        return next((it for it, above in self.parent.items() if above == top and tuple(words_of(it)[:-1][-len(ends) :]) == ends), None)
+
     def resident(self):
         return PAGE * sum(self.pages[it] for pids in self.groups.values() for it in pids)
 
@@ -117,7 +126,7 @@ class Meter:
 
     def __init__(self):
         self.works, self.tried = {}, set()
-        self.at_start, self.memory, self.resident = memory_in_use(), 0, 0
+        self.at_start, self.memory, self.resident, self.whole = memory_in_use(), 0, 0, 0.0
 
     def look(self, top, now):
         sample = Sample(top)
@@ -126,7 +135,7 @@ class Meter:
             self.name(work, leader)
             work.seconds, work.seen = max(work.seconds, sample.seconds(leader)), now
         self.memory = max(self.memory, memory_in_use() - self.at_start)
-        self.resident = max(self.resident, sample.resident())
+        self.resident, self.whole = max(self.resident, sample.resident()), max(self.whole, sample.whole(top))
 
     def name(self, work, pid):
         """Finds out what a process is for. A process can become another program, so its words are read each time."""
@@ -188,6 +197,12 @@ def print_table(meter, whole, wall):
     print(row(["all", *[minutes(sum(it[step] for it in found.values())) for step in STEPS], minutes(whole), "0.0", f"{wall / 60:.1f}"]))
 
 
+def print_sums(meter, whole, wall):
+    gigabytes = [f"{it / 1e9:.1f}" for it in (meter.memory, meter.resident)]
+    print(f"\nWall time {wall / 60:.1f} minutes, processor time {whole / 60:.1f} minutes, on {len(os.sched_getaffinity(0))} processors. Memory at most")
+    print(f"{gigabytes[0]} GB above what was in use at the start; the resident sizes of rt's processes came to {gigabytes[1]} GB.\n")
+
+
 def measure(words, clone, log, every):
     """Runs rt, and returns what was seen, its status, its processor seconds and its seconds."""
     meter, began = Meter(), time.monotonic()
@@ -206,6 +221,19 @@ def measure(words, clone, log, every):
         raise
 
 
+def beside(shell, every):
+    """Looks at the 'rt ci' that a process starts, until it ends, and returns what was seen and its seconds."""
+    meter, began, rt = Meter(), time.monotonic(), None
+    while rt is None and time.monotonic() - began < 60:
+        rt = Sample(shell).child(shell, "ci")
+        time.sleep(0 if rt else 0.1)
+    began, words = time.monotonic(), words_of(rt)
+    while rt and words_of(rt) == words:
+        meter.look(rt, time.monotonic() - began)
+        time.sleep(every)
+    return meter, time.monotonic() - began
+
+
 def arguments():
     head, _, rest = __doc__.partition("\n\n")
     words = argparse.ArgumentParser(description=head, epilog=rest, formatter_class=argparse.RawDescriptionHelpFormatter)
@@ -213,6 +241,7 @@ def arguments():
     words.add_argument("--log", metavar="FILE", help="where the log of rt is kept (gate-time-DATE.log in that folder)")
     words.add_argument("--names", metavar="NAME", nargs="+", default=[], help="only these crates and those below them")
     words.add_argument("--kept", action="store_true", help="without --anew")
+    words.add_argument("--beside", metavar="PID", type=int, help="looks at the 'rt ci' that this process starts, and starts nothing")
     words.add_argument("--every", metavar="SECONDS", type=float, default=0.5, help="how often to look (0.5)")
     return words.parse_args()
 
@@ -222,6 +251,11 @@ def main():
     log = os.path.abspath(asked.log or f"{asked.at}/gate-time-{time.strftime('%Y%m%d-%H%M%S')}.log")
     for it in (signal.SIGTERM, signal.SIGHUP):
         signal.signal(it, lambda number, _: sys.exit(128 + number))
+    if asked.beside:
+        meter, wall = beside(asked.beside, asked.every)
+        print_table(meter, meter.whole, wall)
+        print_sums(meter, meter.whole, wall)
+        return 0
     words = ["rt", "ci", *([] if asked.kept else ["--anew"]), *asked.names]
     with tempfile.TemporaryDirectory(prefix="gate-time-", dir=asked.at) as room, open(log, "wb") as out:
         subprocess.run(["git", "clone", "-q", TOP, f"{room}/clone"], check=True)
@@ -229,9 +263,7 @@ def main():
         print(f"`{' '.join(words)}` at {commit}; the log is {log}\n", flush=True)
         meter, status, whole, wall = measure(words, f"{room}/clone", out, asked.every)
     print_table(meter, whole, wall)
-    gigabytes = [f"{it / 1e9:.1f}" for it in (meter.memory, meter.resident)]
-    print(f"\nWall time {wall / 60:.1f} minutes, processor time {whole / 60:.1f} minutes, on {len(os.sched_getaffinity(0))} processors. Memory at most")
-    print(f"{gigabytes[0]} GB above what was in use at the start; the resident sizes of rt's processes came to {gigabytes[1]} GB.\n")
+    print_sums(meter, whole, wall)
     print((text_of(log).strip().splitlines() or ["rt printed nothing"])[-1])
     return status
 

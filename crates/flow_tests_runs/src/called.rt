@@ -94,7 +94,7 @@ fn threads_call<R: Threads + Wait + Sync, G: Gate>(
     shelf: &Shelf,
     gate: &G,
 ) -> (u8, Kept)
-    requires { length shelf.now.bodies.items ≡ 10 }
+    requires count { length shelf.now.bodies.items ≡ 10 }
 {
     let mut kept = Kept::new(alloc);
     let status = flow_top(
