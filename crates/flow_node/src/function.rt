@@ -70,8 +70,8 @@ fn goes_over(wire: Wire, port: u32, edge: u32) -> bool
 fn is_over(outs: &[Wire], port: u32, edge: u32) -> bool
     ensures { result ≡ list_any (λ w. nat_eq w.out port && nat_eq w.edge edge) outs.now }
 {
-    for k in 0..outs.len() {
-        if goes_over(outs[k], port, edge) {
+    for x in 0..outs.len() {
+        if goes_over(outs[x], port, edge) {
             return true;
         }
     }
@@ -97,8 +97,8 @@ fn has_met_over(outs: &[Wire], cast: &Cast, port: u32) -> bool
     ensures { result
         ≡ list_all (λ w. not (nat_eq w.out port) || has cast.now.cast.met w.edge) outs.now }
 {
-    for k in 0..outs.len() {
-        if !has_met(outs[k], cast, port) {
+    for x in 0..outs.len() {
+        if !has_met(outs[x], cast, port) {
             return false;
         }
     }

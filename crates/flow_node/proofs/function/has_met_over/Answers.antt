@@ -6,8 +6,8 @@ use Rattle.flow_node.proofs.function.has_met_over.Goals as goal
 
 pub returns-then-not-has_met : goal.returns-then-not-has_met
 returns-then-not-has_met c =
-    all-here (λ (w : Wire). not (eqb w.out c.args.port) || has c.args.cast.now.cast.met w.edge) c.args.outs.now c.loop-k.k _ c.loop-k-test.true (sym c.has_met.ensures ∙ c.if-not-has_met.true) ∙ c.loop-k.invariant
+    all-here (λ (w : Wire). not (eqb w.out c.args.port) || has c.args.cast.now.cast.met w.edge) c.args.outs.now c.loop-x.x _ c.loop-x-test.true (sym c.has_met.ensures ∙ c.if-not-has_met.true) ∙ c.loop-x.invariant
 
-pub loop-k-preserved : goal.loop-k-preserved
-loop-k-preserved c =
-    all-past (λ (w : Wire). not (eqb w.out c.args.port) || has c.args.cast.now.cast.met w.edge) c.args.outs.now c.loop-k.k _ c.loop-k-test.true (sym c.has_met.ensures ∙ c.if-not-has_met.false) ∙ c.loop-k.invariant
+pub loop-x-preserved : goal.loop-x-preserved
+loop-x-preserved c =
+    all-past (λ (w : Wire). not (eqb w.out c.args.port) || has c.args.cast.now.cast.met w.edge) c.args.outs.now c.loop-x.x _ c.loop-x-test.true (sym c.has_met.ensures ∙ c.if-not-has_met.false) ∙ c.loop-x.invariant

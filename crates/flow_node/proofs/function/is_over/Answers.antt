@@ -5,8 +5,8 @@ use Rattle.flow_node.proofs.function.is_over.Goals as goal
 
 pub returns-then-goes_over : goal.returns-then-goes_over
 returns-then-goes_over c =
-    any-here (λ (w : Wire). eqb w.out c.args.port && eqb w.edge c.args.edge) c.args.outs.now c.loop-k.k _ c.loop-k-test.true (sym c.goes_over.ensures ∙ c.if-goes_over.true) ∙ c.loop-k.invariant
+    any-here (λ (w : Wire). eqb w.out c.args.port && eqb w.edge c.args.edge) c.args.outs.now c.loop-x.x _ c.loop-x-test.true (sym c.goes_over.ensures ∙ c.if-goes_over.true) ∙ c.loop-x.invariant
 
-pub loop-k-preserved : goal.loop-k-preserved
-loop-k-preserved c =
-    any-past (λ (w : Wire). eqb w.out c.args.port && eqb w.edge c.args.edge) c.args.outs.now c.loop-k.k _ c.loop-k-test.true (sym c.goes_over.ensures ∙ c.if-goes_over.false) ∙ c.loop-k.invariant
+pub loop-x-preserved : goal.loop-x-preserved
+loop-x-preserved c =
+    any-past (λ (w : Wire). eqb w.out c.args.port && eqb w.edge c.args.edge) c.args.outs.now c.loop-x.x _ c.loop-x-test.true (sym c.goes_over.ensures ∙ c.if-goes_over.false) ∙ c.loop-x.invariant

@@ -4,5 +4,5 @@ use Rattle.flow_shape.specs.declared.Wire.{Wire}
 use Rattle.flow_node.proofs.function.is_over.Given as goal
 
 -- it is none of those before
-abbrev pub invariant-loop-k : goal.invariant-loop-k
-invariant-loop-k l = list_any (λ (w : Wire). eqb w.out l.port && eqb w.edge l.edge) (drop l.k l.outs) ≡ list_any (λ (w : Wire). eqb w.out l.port && eqb w.edge l.edge) l.outs
+abbrev pub invariant-loop-x : goal.invariant-loop-x
+invariant-loop-x l = list_any (λ (w : Wire). eqb w.out l.port && eqb w.edge l.edge) (drop l.x l.outs) ≡ list_any (λ (w : Wire). eqb w.out l.port && eqb w.edge l.edge) l.outs
