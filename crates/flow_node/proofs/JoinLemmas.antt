@@ -1,10 +1,10 @@
 -- A join's part: what waits at its ports, what it offers, and what its steps leave.
-use Rattle.std.proofs.Common.{◌≡◌, ℕ, zero, suc, ◌<◌, ◌≤◌, Bool, true, false, not, ◌&&◌, cond, eqb, Option, Some, None, List, [], ◌∷◌, ◌++◌, length, map, take, drop, refl, sym, ap, ◌∙◌, arith, eq-eqb}
+use Rattle.std.proofs.Common.{◌≡◌, ℕ, zero, suc, ◌<◌, ◌≤◌, Bool, true, false, not, ◌&&◌, cond, eqb, Option, Some, None, List, [], ◌∷◌, ◌++◌, length, map, filter, take, drop, refl, sym, ap, ◌∙◌, arith, eq-eqb}
 use Rattle.std.specs.Prelude.{slice_get, is_some, is_none, IfSome}
 use Rattle.std.specs.Option.{option_map, unwrap_or}
 use Rattle.std.specs.List.{find}
 use Rattle.std.proofs.lemmas.List.{length-map}
-use Rattle.std.proofs.lemmas.Bool.{eqb-true}
+use Rattle.std.proofs.lemmas.Bool.{eqb-true, le-leb}
 use Rattle.flow_item.specs.declared.item.Item.{Item}
 use Rattle.flow_item.specs.declared.item.Id.{Id}
 use Rattle.flow_item.specs.declared.val.Val.{Val}
@@ -17,7 +17,7 @@ use Rattle.flow_item.proofs.Tests.{and_left, and_right, both_true}
 use Rattle.flow_item.proofs.Places.{slice_get-below}
 use Rattle.flow_shape.specs.declared.Wire.{Wire}
 use Rattle.flow_shape.specs.Kinds.{is_keeping, is_discarding}
-use Rattle.flow_shape.specs.Places.{Place}
+use Rattle.flow_shape.specs.Places.{Place, edge_number}
 use Rattle.flow_machine.specs.State.{NodeState, option_list, one_if, offer, new_cast, item_of}
 use Rattle.flow_machine.specs.Offers.{candidates, cast_candidates, offer_end, slot_end, end_of_offer, is_met, when, cons_all, fronts, with_tag, least, common_tags, matching_parts, tag_of, tuple_of}
 use Rattle.flow_machine.specs.WishEvents.{where_some}
@@ -26,7 +26,7 @@ use Rattle.flow_machine.specs.Wishes.{shut_wish}
 use Rattle.flow_machine.specs.declared.Wish.TheVariants as W
 use Rattle.flow_cast.specs.Casts.{RoomyCast}
 use Rattle.flow_node.specs.Parts.{cast_in, edges_over, is_roomy}
-use Rattle.flow_node.specs.Joins.{JoinView, ports_of, rule_of, parts_of, ready_parts, tuple_in, join_kind, join_part_of, is_slot_roomy, tuple_cast, KeepsRoom}
+use Rattle.flow_node.specs.Joins.{JoinView, ports_of, rule_of, parts_of, ready_parts, tuple_in, join_kind, join_part_of, is_slot_roomy, has_tuple_room, room_edges, tuple_cast, KeepsRoom}
 use Rattle.flow_node.specs.Readied.{suits}
 use Rattle.flow_node.specs.Kept.{place_with, state_with}
 use Rattle.flow_node.specs.declared.base.Base.{Base}
@@ -251,3 +251,11 @@ join-keeps (J.Key k) = refl
 pub join-switches : (inputs : Inputs) → is_discarding (rule_of inputs) ≡ false
 join-switches (J.Queue q) = refl
 join-switches (J.Key k) = refl
+
+-- ---- the room of the next tuple
+
+-- room that was made for the edges out of the port
+pub has-room : (outs : List Wire) (o : Option TupleRoom) (r : TupleRoom) (n : ℕ) → o ≡ Some r → r.cast ≡ n → n ≡ length (filter (λ (w : Wire). eqb w.out 0) outs) → has_tuple_room outs (option_map room_edges o) ≡ true
+has-room outs o r n at room count =
+    let long = length-map (filter (λ (w : Wire). eqb w.out 0) outs) edge_number in
+    rw at (le-leb (length (edges_over outs 0)) r.cast (omega (arith, long, room, count)))

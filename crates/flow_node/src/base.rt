@@ -61,19 +61,32 @@ fn is_at(numbers: &[u32], at: usize, number: u32) -> bool
     }
 }
 
+/// The first edge of this number.
+fn wire_of(wires: &[Wire], edge: u32) -> Option<Wire>
+    ensures { result ≡ wire_in wires.now edge }
+{
+    for k in 0..wires.len() {
+        let wire = wires[k];
+        if wire.edge == edge {
+            return Some(wire);
+        }
+    }
+    None
+}
+
 impl Base {
     /// The out edge of this number.
     pub(crate) fn wire_out(&self, edge: u32) -> Option<Wire>
         ensures { result ≡ wire_in self.now.outs.items edge }
     {
-        self.outs.iter().copied().find(|wire| wire.edge == edge)
+        wire_of(&self.outs, edge)
     }
 
     /// The in edge of this number.
     pub(crate) fn wire_in(&self, edge: u32) -> Option<Wire>
         ensures { result ≡ wire_in self.now.ins.items edge }
     {
-        self.ins.iter().copied().find(|wire| wire.edge == edge)
+        wire_of(&self.ins, edge)
     }
 
     /// Makes room for one more edge in push.

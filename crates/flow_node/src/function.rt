@@ -59,12 +59,23 @@ impl Model for FunctionPart {
     ghost invariant = { λ f. (f.offered ≤ length f.casts.items) × (f.func.reject ≡ false) };
 }
 
+/// Whether it is the edge, and goes out of the port.
+fn goes_over(wire: Wire, port: u32, edge: u32) -> bool
+    ensures { result ≡ (nat_eq wire.out port && nat_eq wire.edge edge) }
+{
+    wire.out == port && wire.edge == edge
+}
+
 /// Whether the edge goes out of the port.
 fn is_over(outs: &[Wire], port: u32, edge: u32) -> bool
     ensures { result ≡ list_any (λ w. nat_eq w.out port && nat_eq w.edge edge) outs.now }
 {
-    outs.iter()
-        .any(|wire| wire.out == port && wire.edge == edge)
+    for x in 0..outs.len() {
+        if goes_over(outs[x], port, edge) {
+            return true;
+        }
+    }
+    false
 }
 
 /// The number of edges out of the port.
@@ -74,11 +85,11 @@ pub(crate) fn count_over(outs: &[Wire], port: u32) -> usize
     outs.iter().filter(|wire| wire.out == port).count()
 }
 
-/// Whether the cast met the edge.
-fn has_met(cast: &Cast, edge: u32) -> bool
-    ensures { result ≡ has cast.now.cast.met edge }
+/// Whether the cast met the edge, where it goes out of the port.
+fn has_met(wire: Wire, cast: &Cast, port: u32) -> bool
+    ensures { result ≡ (not (nat_eq wire.out port) || has cast.now.cast.met wire.edge) }
 {
-    !cast.offer(edge)
+    wire.out != port || !cast.offer(wire.edge)
 }
 
 /// Whether the cast met all edges out of the port.
@@ -86,8 +97,12 @@ fn has_met_over(outs: &[Wire], cast: &Cast, port: u32) -> bool
     ensures { result
         ≡ list_all (λ w. not (nat_eq w.out port) || has cast.now.cast.met w.edge) outs.now }
 {
-    outs.iter()
-        .all(|wire| wire.out != port || has_met(cast, wire.edge))
+    for x in 0..outs.len() {
+        if !has_met(outs[x], cast, port) {
+            return false;
+        }
+    }
+    true
 }
 
 /// Whether the cast may meet the edge: it goes out of its port, and wasn't met.
@@ -121,7 +136,10 @@ fn cast_of(alloc: Global, base: &Base, number: u64, msg: &Msg) -> Result<Cast, N
     };
     match Cast::new(alloc, item, msg.port, count_over(&base.outs, msg.port)) {
         Ok(cast) => Ok(cast),
-        Err(_) => Err(NoMemory),
+        Err(refused) => {
+            drop(refused);
+            Err(NoMemory)
+        }
     }
 }
 
@@ -133,6 +151,20 @@ fn message_at(outs: &Outs, k: usize) -> &Msg
     match outs.get(k) {
         Some(msg) => msg,
         None => unreachable!(),
+    }
+}
+
+/// Adds a cast behind the others.
+fn add_cast(casts: &mut VecDeque<Cast>, cast: Cast) -> Result<(), NoMemory>
+    ensures ok { OnOk result (casts.new.items ≡ casts.old.items ++ cast ∷ []) }
+    ensures err { OnErr result (casts.new.items ≡ casts.old.items) }
+{
+    match casts.push_back(cast) {
+        Ok(()) => Ok(()),
+        Err(refused) => {
+            drop(refused);
+            Err(NoMemory)
+        }
     }
 }
 
@@ -152,9 +184,7 @@ fn add_casts(
 {
     for k in 0..outs.len() {
         let cast = cast_of(alloc, base, number + k as u64, message_at(outs, k))?;
-        if let Err(_) = casts.push_back(cast) {
-            return Err(NoMemory);
-        }
+        add_cast(casts, cast)?;
     }
     Ok(())
 }
@@ -429,7 +459,7 @@ impl FunctionPart {
         ensures { self.new ≡ record self.old { outbox = rest self.old.outbox } }
     {
         if self.offered > 0 {
-            self.casts.pop_front();
+            drop(self.casts.pop_front());
             self.offered -= 1;
         }
     }

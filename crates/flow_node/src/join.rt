@@ -125,6 +125,7 @@ impl Inputs {
         ensures rule { rule_of self.new ≡ rule_of self.old }
     {
         if port >= self.ports() {
+            drop(item);
             return;
         }
         match self {
@@ -198,7 +199,12 @@ fn has_met_push(push: &[u32], cast: &Cast) -> bool
 fn has_met_each(push: &[u32], cast: &Cast) -> bool
     ensures { result ≡ all_in push.now cast.now.cast.met }
 {
-    push.iter().all(|edge| !cast.offer(*edge))
+    for k in 0..push.len() {
+        if cast.offer(push[k]) {
+            return false;
+        }
+    }
+    true
 }
 
 /// Whether a tuple on offer is over: some successor has it, and no edge in push is left to meet.
@@ -226,13 +232,13 @@ fn tuple_room(alloc: Global, ports: usize, edges: usize) -> Result<TupleRoom, No
     Ok(TupleRoom { vals, cast })
 }
 
-/// The list without its members, with their room.
-fn emptied(ids: Roomy<Id>) -> Roomy<Id>
-    ensures { result.items ≡ [] }
+/// Takes the members out of the list, and keeps their room.
+fn empty(ids: &mut Roomy<Id>, alloc: Global)
+    ensures { ids.new.items ≡ [] }
 {
-    let mut ids = ids.into_vec();
-    ids.clear();
-    Roomy::from_vec(ids)
+    let mut full = mem::replace(ids, Roomy::new(alloc)).into_vec();
+    full.clear();
+    drop(mem::replace(ids, Roomy::from_vec(full)));
 }
 
 impl JoinPart {
@@ -397,9 +403,10 @@ impl JoinPart {
         ensures room { has_tuple_room base.now.outs.items self.new.room ≡ true }
     {
         let ports = self.inputs.ports() as usize;
-        self.room = None;
+        drop(self.room.take());
         self.ids.reserve(ports)?;
-        self.room = Some(tuple_room(self.alloc, ports, count_over(&base.outs, 0))?);
+        let room = tuple_room(self.alloc, ports, count_over(&base.outs, 0))?;
+        drop(self.room.replace(room));
         Ok(())
     }
 
@@ -426,10 +433,10 @@ impl JoinPart {
         ensures room { self.new.room ≡ None }
     {
         let room = self.room.take();
-        let mut ids = mem::replace(&mut self.ids, Roomy::new(self.alloc));
         match room {
             Some(TupleRoom { mut vals, cast }) => {
-                let tag = self.inputs.form(&mut ids, &mut vals);
+                let tag = self.inputs.form(&mut self.ids, &mut vals);
+                empty(&mut self.ids, self.alloc);
                 let item = Item {
                     id: Id {
                         node: base.node,
@@ -438,8 +445,7 @@ impl JoinPart {
                     tag,
                     val: Val::list(self.alloc, vals.into_items()),
                 };
-                self.slot = Some(Cast::in_room(item, 0, cast));
-                self.ids = emptied(ids);
+                drop(self.slot.replace(Cast::in_room(item, 0, cast)));
             }
             None => unreachable!(),
         }
@@ -461,6 +467,6 @@ impl JoinPart {
     pub(crate) fn shut(&mut self)
         ensures { self.new ≡ record self.old { slot = None } }
     {
-        self.slot = None;
+        drop(self.slot.take());
     }
 }

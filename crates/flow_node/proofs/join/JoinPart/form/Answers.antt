@@ -15,5 +15,5 @@ returns-clause-slot c =
     let parts = ready_parts c.args.self.now.inputs in
     let after : c.form-tag.new.vals.items ≡ made.vals.items ++ map (λ (i : Item). i.val) parts = rw (← c.self.view_is) c.form-tag.ensures.vals in
     let tag : c.form-tag.result ≡ tag_of parts = rw (← c.self.view_is) c.form-tag.ensures.tag in
-    slot-made c.args.base.now.node c.args.no c.form-tag.result parts made.vals.items c.into_items.result c.list.result made.cast c.args.self.now.room c.in_room.result
+    c.replace.ensures.after ∙ slot-made c.args.base.now.node c.args.no c.form-tag.result parts made.vals.items c.into_items.result c.list.result made.cast c.args.self.now.room c.in_room.result
     c.in_room.ensures c.list.ensures (c.into_items.ensures ∙ after) kept tag room
