@@ -1,5 +1,5 @@
 -- What the journal of a closed book is.
-use Rattle.std.proofs.Common.{◌≡◌, ℕ, ◌+◌, ◌<◌, ◌≤◌, Bool, true, false, ◌&&◌, if◌then◌else◌, Option, Some, None, List, [], ◌∷◌, ◌++◌, length, refl, sym, ap, ◌∙◌, subst, arith, append_assoc, All}
+use Rattle.std.proofs.Common.{◌≡◌, ℕ, ◌<◌, ◌≤◌, true, if◌then◌else◌, Option, Some, None, List, [], ◌∷◌, ◌++◌, length, refl, sym, ap, ◌∙◌, subst, arith, append_assoc, All}
 use Rattle.std.specs.List.{sum_by, count_by, list_all}
 use Rattle.std.specs.Option.{is_some}
 use Rattle.std.proofs.lemmas.List.Elements.{All-nil, All-cons, All-head, All-tail}
@@ -7,7 +7,6 @@ use Rattle.flow_item.specs.declared.event.Event.{Event}
 use Rattle.flow_item.specs.Events.{parties_of, births_of, births}
 use Rattle.flow_item.specs.Legal as legal
 use Rattle.flow_item.proofs.Tests.{and_left}
-use Rattle.flow_shape.specs.declared.Shape.{Shape}
 use Rattle.flow_shape.specs.Rules.{IsValid}
 use Rattle.flow_machine.specs.Machine.{is_leave, is_legal, is_of_run, is_run, open_after}
 use Rattle.flow_machine.specs.Settled.{IsSettled}

@@ -1,18 +1,17 @@
 -- The nodes that a closed book hands on are those after its journal.
-use Rattle.std.proofs.Common.{◌≡◌, ℕ, zero, suc, ◌+◌, ◌≤◌, ◌<◌, Bool, true, false, Option, Some, None, List, [], ◌∷◌, ◌++◌, length, set, get_or, map, replicate, refl, sym, ap, ◌∙◌, subst, arith, append_assoc, append-nil, All}
+use Rattle.std.proofs.Common.{◌≡◌, ℕ, zero, suc, ◌+◌, ◌≤◌, ◌<◌, Bool, false, Option, Some, None, List, [], ◌∷◌, ◌++◌, length, set, get_or, map, replicate, refl, sym, ap, ◌∙◌, subst, arith, append_assoc, append-nil, All}
 use Rattle.std.specs.Prelude.{slice_get, IfSome}
 use Rattle.std.specs.Option.{option_map}
 use Rattle.std.proofs.lemmas.List.{map-append, length-map, length-append}
 use Rattle.std.proofs.lemmas.List.Elements.{All-head, All-tail}
 use Rattle.std.proofs.lemmas.Option.{same_Some, slice_get_read}
 use Rattle.flow_item.specs.declared.event.Event.{Event}
-use Rattle.flow_item.specs.declared.event.Party.{Party}
 use Rattle.flow_item.specs.declared.event.Party.TheVariants.{Node}
 use Rattle.flow_item.specs.Events.{parties_of}
 use Rattle.flow_item.specs.Legal.{projection}
 use Rattle.flow_item.specs.Lists.{map_places}
 use Rattle.flow_shape.specs.declared.Kind.{Kind}
-use Rattle.flow_shape.specs.Places.{Place, place_at}
+use Rattle.flow_shape.specs.Places.{place_at}
 use Rattle.flow_machine.specs.State.{PlacedNode}
 use Rattle.flow_node.specs.Readied.{Readied, is_waiting}
 use Rattle.flow_nodes.specs.Rows.{node_at, nodes_of}
@@ -21,7 +20,7 @@ use Rattle.flow_line.specs.Values.{Sitting, IsPart}
 use Rattle.flow_book.specs.declared.machine.Run.{Run}
 use Rattle.flow_book.specs.Answers.{about_of}
 use Rattle.flow_book.specs.Posts.{node_in, place_about, replayed}
-use Rattle.flow_book.specs.Handed.{AreSeated, AreTaken}
+use Rattle.flow_book.specs.Handed.{AreSeated, AreTaken, IsOneMore}
 
 -- ---- which of them wait
 
@@ -98,6 +97,12 @@ taken-more before after more rs now r c h is_now is_more party replay = record {
   where
     by_count : (m n : ℕ) → m ≡ n → n ≡ 0 + m
     by_count m n h = omega (arith, h)
+
+pub taken-one : (before after more : List (Sitting Event Run)) (rs now : List Readied) → AreTaken (length rs) before after (Some rs) → IsOneMore rs now after more → AreTaken (length now) before more (Some now)
+taken-one before after more rs now h one = taken-more before after more rs now one.0 one.1 h one.2 one.3 one.4 one.5
+
+pub one-longer : (rs now : List Readied) (after more : List (Sitting Event Run)) → IsOneMore rs now after more → length now ≡ length rs + 1
+one-longer rs now after more one = ap length one.2 ∙ length-append rs (one.0 ∷ [])
 
 -- ---- the nodes after the journal
 

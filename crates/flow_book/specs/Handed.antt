@@ -21,3 +21,8 @@ pub record AreTaken (count : ℕ) (before after : List (Sitting Event Run)) (nod
   pub chairs : List (Sitting Event Run)
   pub behind : after ≡ before ++ chairs
   pub theirs : IfSome nodes (λ rs. (length rs ≡ count) × AreSeated 0 chairs (map node_of rs))
+
+-- one more was taken: its node went behind the nodes, and its chair behind the chairs
+abbrev pub IsOneMore : List Readied → List Readied → List (Sitting Event Run) → List (Sitting Event Run) → Type 0
+IsOneMore nodes more chairs longer =
+    (r : Readied) × (c : Sitting Event Run) × (more ≡ nodes ++ r ∷ []) × (longer ≡ chairs ++ c ∷ []) × (c.party ≡ Node (length nodes)) × (replayed c ≡ Some r.node)

@@ -1,5 +1,5 @@
 //! The end of a run.
-ghost use Rattle.std.specs.Prelude.{◌≡◌, ◌<◌, ◌++◌, true, length, map, vec_len, All, IfOk, IfSome};
+ghost use Rattle.std.specs.Prelude.{◌≡◌, ◌<◌, ◌++◌, [], ◌∷◌, true, length, map, vec_len, All, Some, None, OnOk, OnErr, IfOk, IfSome};
 ghost use Rattle.flow_item.specs.Events.{parties_of};
 ghost use Rattle.flow_machine.specs.Machine.{is_run, open_after};
 ghost use Rattle.flow_machine.specs.Settled.{IsSettled};
@@ -11,14 +11,14 @@ ghost use Rattle.flow_node.specs.Readied.{is_waiting};
 ghost use Rattle.flow_nodes.specs.Rows.{nodes_of};
 ghost use Rattle.flow_nodes.specs.Stepping.{node_of};
 ghost use Rattle.flow_book.specs.Answers.{about_of};
-ghost use Rattle.flow_book.specs.Handed.{AreTaken};
+ghost use Rattle.flow_book.specs.Handed.{AreTaken, IsOneMore};
 
 use crate::book::Book;
 use crate::machine::GraphMachine;
 use crate::post::Post;
 use crate::seats::Seats;
 use flow_item::{Event, Journal, NoMemory};
-use flow_line::{Chairs, Naming};
+use flow_line::{Chair, Chairs, Naming};
 use flow_node::NodeState;
 use flow_nodes::{DueSet, Nodes};
 use std::alloc::Global;
@@ -49,31 +49,86 @@ fn waiting(alloc: Global, nodes: &[NodeState]) -> Result<DueSet, NoMemory>
     Ok(due)
 }
 
+// The chair goes behind these, where there is memory for it.
+fn put_chair<B: Naming>(
+    workers: &mut Chairs<GraphMachine, B>,
+    chair: Chair<GraphMachine, B>,
+) -> Result<(), NoMemory>
+    ensures ok { OnOk result (workers.new.items ≡ workers.old.items ++ chair ∷ []) }
+    ensures err { OnErr result (workers.new.items ≡ workers.old.items) }
+{
+    match workers.push(chair) {
+        Ok(()) => Ok(()),
+        Err(chair) => {
+            drop(chair);
+            Err(NoMemory)
+        }
+    }
+}
+
+// A node from behind its lock, where there is memory for it and its number is the next. Its chair goes behind these.
+fn take_node<B: Naming>(
+    post: Mutex<Post<B>>,
+    nodes: &mut Vec<NodeState>,
+    workers: &mut Chairs<GraphMachine, B>,
+) -> Result<(), NoMemory>
+    ensures taken { OnOk result (IsOneMore nodes.old.items nodes.new.items workers.old.items workers.new.items) }
+    ensures same { OnErr result (workers.new.items ≡ workers.old.items) }
+{
+    let post = post.into_inner();
+    if post.number() as usize != nodes.len() {
+        drop(post);
+        return Err(NoMemory);
+    }
+    let (node, chair) = post.into_parts();
+    match nodes.push(node) {
+        Ok(()) => put_chair(workers, chair),
+        Err(refused) => {
+            drop(refused);
+            drop(chair);
+            Err(NoMemory)
+        }
+    }
+}
+
+// All nodes from behind their locks, as far as there is memory for them. Their chairs go behind these.
+fn take_posts<B: Naming>(
+    mut posts: Vec<Mutex<Post<B>>>,
+    nodes: &mut Vec<NodeState>,
+    workers: &mut Chairs<GraphMachine, B>,
+) -> Result<(), NoMemory>
+    requires none { nodes.old.items ≡ [] }
+    ensures taken { OnOk result (AreTaken (vec_len posts) workers.old.items workers.new.items (Some nodes.new.items)) }
+    ensures chairs { OnErr result (AreTaken (vec_len posts) workers.old.items workers.new.items None) }
+{
+    // The last post is that of node 0.
+    while let Some(post) = posts.pop() {
+        take_node(post, nodes, workers)?;
+    }
+    Ok(())
+}
+
+// The nodes with the set of those that wait, where there is memory for it.
+fn with_waiting(alloc: Global, nodes: Vec<NodeState>) -> Option<Nodes>
+    ensures { IfSome result (λ all. all ≡ nodes.items) }
+{
+    match waiting(alloc, &nodes) {
+        Ok(due) => Some(Nodes::from_parts(nodes, due)),
+        Err(_) => None,
+    }
+}
+
 // The nodes from behind their locks, where there is memory for them. Their chairs go behind those of the workers.
 fn take_nodes<B: Naming>(
     alloc: Global,
-    mut posts: Vec<Mutex<Post<B>>>,
+    posts: Vec<Mutex<Post<B>>>,
     workers: &mut Chairs<GraphMachine, B>,
 ) -> Option<Nodes>
     ensures { AreTaken (vec_len posts) workers.old.items workers.new.items result }
 {
     let mut nodes = Vec::new(alloc);
-    // The last post is that of node 0.
-    while let Some(post) = posts.pop() {
-        let post = post.into_inner();
-        if post.number() as usize != nodes.len() {
-            return None;
-        }
-        let (node, chair) = post.into_parts();
-        let Ok(()) = nodes.push(node) else {
-            return None;
-        };
-        let Ok(()) = workers.push(chair) else {
-            return None;
-        };
-    }
-    match waiting(alloc, &nodes) {
-        Ok(due) => Some(Nodes::from_parts(nodes, due)),
+    match take_posts(posts, &mut nodes, workers) {
+        Ok(()) => with_waiting(alloc, nodes),
         Err(_) => None,
     }
 }

@@ -218,7 +218,10 @@ impl<B: Naming> Book<B> {
             });
         };
         match self.end_job(rt, w, job.node, job.item.id.no, first, gate) {
-            Ok(()) => Ok(()),
+            Ok(()) => {
+                drop((job, outs));
+                Ok(())
+            }
             Err(Refused { stop, event }) => Err(Unfinished {
                 job,
                 outs: outs_unless_kept(alloc, event, outs),
@@ -248,7 +251,10 @@ impl<B: Naming> Book<B> {
         ensures outs { IfErr result (λ u. u.outs ≡ outs_back w.old.kept u.stop outs) }
     {
         match self.end_job(rt, w, job.node, job.item.id.no, outs, gate) {
-            Ok(()) => Ok(()),
+            Ok(()) => {
+                drop(job);
+                Ok(())
+            }
             Err(Refused { stop, event }) => Err(Unfinished {
                 job,
                 outs: outs_in(alloc, event),
@@ -307,6 +313,7 @@ impl<B: Naming> Book<B> {
     {
         self.line.look(w);
         if self.run.shape.nodes.len() <= ask.node as usize {
+            drop(outs);
             return Ok(Took::Stranger);
         }
         match self.back_at(rt, alloc, w, ask, outs, gate) {
@@ -340,6 +347,7 @@ impl<B: Naming> Book<B> {
         post.meet(&self.line, w);
         post.known();
         if !self.is_asked(&post, ask) {
+            drop(outs);
             return Ok(Took::Stranger);
         }
         match post.make_back(rt, &self.line, w, ask.ticket, outs, gate) {

@@ -117,7 +117,10 @@ pub(crate) fn outs_in(alloc: Global, event: Option<Event>) -> Outs
     match event {
         Some(Event::End { outs, .. }) => outs,
         Some(Event::Back { outs, .. }) => outs,
-        _ => Outs::new(alloc),
+        event => {
+            drop(event);
+            Outs::new(alloc)
+        }
     }
 }
 
@@ -126,7 +129,13 @@ pub(crate) fn outs_unless_kept(alloc: Global, event: Option<Event>, outs: Outs) 
     ensures { result ≡ if is_none event then [] else outs }
 {
     match event {
-        Some(_) => outs,
-        None => Outs::new(alloc),
+        Some(event) => {
+            drop(event);
+            outs
+        }
+        None => {
+            drop(outs);
+            Outs::new(alloc)
+        }
     }
 }

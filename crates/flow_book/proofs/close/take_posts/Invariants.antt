@@ -1,6 +1,6 @@
 use Rattle.std.proofs.Common.{◌≡◌, ◌+◌, Some, length, vec_len}
 use Rattle.flow_book.specs.Handed.{AreTaken}
-use Rattle.flow_book.proofs.close.take_nodes.Given as goal
+use Rattle.flow_book.proofs.close.take_posts.Given as goal
 
 -- the nodes that were taken, which are all with those that are left
 abbrev pub invariant-loop-post : goal.invariant-loop-post
