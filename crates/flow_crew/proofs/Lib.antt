@@ -10,5 +10,6 @@ pub mod Sent
 pub mod SentGraph
 pub mod Shelved
 pub mod Stays
+pub mod Turns
 pub mod Wished
 pub mod Works

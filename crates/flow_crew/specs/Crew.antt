@@ -9,6 +9,9 @@ use Rattle.flow_machine.specs.Bodies.{Meanings, body_kept}
 use Rattle.flow_machine.specs.Scripts.{sent_by}
 use Rattle.flow_line.specs.declared.view.About.{About}
 use Rattle.flow_line.specs.Values.{Sitting}
+use Rattle.flow_pool.specs.declared.pool.Pool.{Pool}
+use Rattle.flow_pool.specs.declared.post.Post.{Post}
+use Rattle.flow_pool.specs.Posts.{IsPostOf}
 use Rattle.flow_book.specs.declared.machine.Run.{Run}
 use Rattle.flow_book.specs.declared.job.Job.{Job}
 use Rattle.flow_book.specs.declared.job.JobBody.{JobBody}
@@ -84,6 +87,19 @@ pub record HasWorked (c d : Sitting Event Run) : Type 0 where
   pub own : IsPrefix c.own d.own
   pub seen : IsPrefix c.seen d.seen
   pub looks : c.looks ≤ d.looks
+
+-- a worker of the run with its post in the pool, which runs nothing
+pub record IsFree (m : Meanings) (run : Run) (items events : ℕ) (pool : Pool) (c : Sitting Event Run) (post : Post) (busy : Bool) : Type 0 where
+  pub of : IsWorker m run items events c busy
+  pub place : IsPostOf pool post
+  pub idle : busy ≡ false
+
+-- a turn leaves a worker of the run with its post in the pool, which runs nothing unless something was refused
+pub record HasTurned (m : Meanings) (run : Run) (items events : ℕ) (pool : Pool) (c d : Sitting Event Run) (post : Post) (busy refused : Bool) : Type 0 where
+  pub of : IsWorker m run items events d busy
+  pub place : IsPostOf pool post
+  pub worked : HasWorked c d
+  pub idle : refused ≡ false → busy ≡ false
 
 -- ---- how calls end
 

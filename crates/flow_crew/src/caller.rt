@@ -1,5 +1,5 @@
 //! A caller of a graph.
-ghost use Rattle.std.specs.Prelude.{◌≡◌, true, false, IfSome, IfNone, IfOk, IfErr, OnOk};
+ghost use Rattle.std.specs.Prelude.{◌≡◌, true, is_some, IfSome, IfOk, IfErr, OnOk};
 ghost use Rattle.flow_item.specs.declared.event.PutAnswer.{PutAnswer};
 ghost use Rattle.flow_item.specs.declared.event.Event.TheVariants as E;
 ghost use Rattle.flow_item.specs.declared.event.Party.TheVariants.{Caller as of_caller};
@@ -8,7 +8,7 @@ ghost use Rattle.flow_item.specs.Legal.{projection};
 ghost use Rattle.flow_pool.specs.Posts.{IsPostOf};
 ghost use Rattle.flow_book.specs.Answers.{IsDone, IsHalted, IsSame, Was};
 ghost use Rattle.flow_book.specs.Callers.{number_of, may_call, takes_puts, takes_acts};
-ghost use Rattle.flow_crew.specs.Crew.{HasWorked, IsCaller, IsWaited, IsWorker};
+ghost use Rattle.flow_crew.specs.Crew.{HasTurned, HasWorked, IsCaller, IsFree, IsWaited, IsWorker};
 
 use crate::bodies::Bodies;
 use crate::graph::Graph;
@@ -198,15 +198,10 @@ impl<B: Naming> Caller<B> {
         graph: &Graph<S, G, B>,
     ) -> Option<Waited>
         requires of { IsCaller (S.meanings graph.now.bench.bodies.now) graph.now.book.run graph.now.book.items graph.now.book.events self.old.chair }
-        requires worker { IsWorker (S.meanings graph.now.bench.bodies.now) graph.now.book.run graph.now.book.items graph.now.book.events self.old.worker.chair self.old.worker.busy }
-        requires post { IsPostOf graph.now.pool self.old.worker.post }
-        requires idle { self.old.worker.busy ≡ false }
+        requires free { IsFree (S.meanings graph.now.bench.bodies.now) graph.now.book.run graph.now.book.items graph.now.book.events graph.now.pool self.old.worker.chair self.old.worker.post self.old.worker.busy }
         ensures of { IsCaller (S.meanings graph.now.bench.bodies.now) graph.now.book.run graph.now.book.items graph.now.book.events self.new.chair }
-        ensures worker { IsWorker (S.meanings graph.now.bench.bodies.now) graph.now.book.run graph.now.book.items graph.now.book.events self.new.worker.chair self.new.worker.busy }
-        ensures post { IsPostOf graph.now.pool self.new.worker.post }
-        ensures worked { HasWorked self.old.worker.chair self.new.worker.chair }
+        ensures turned { HasTurned (S.meanings graph.now.bench.bodies.now) graph.now.book.run graph.now.book.items graph.now.book.events graph.now.pool self.old.worker.chair self.new.worker.chair self.new.worker.post self.new.worker.busy (is_some result) }
         ensures same { IsSame self.old.chair self.new.chair }
-        ensures idle { IfNone result (self.new.worker.busy ≡ false) }
         ensures ended { IfSome result (λ w. IsWaited graph.now.book.run self.old.chair w self.new.chair) }
     {
         match self.worker.turn(rt, alloc, graph) {

@@ -1,5 +1,5 @@
 //! A worker of a graph.
-ghost use Rattle.std.specs.Prelude.{◌≡◌, ◌<◌, true, false, not, length, IfSome, IfNone};
+ghost use Rattle.std.specs.Prelude.{◌≡◌, ◌<◌, true, false, not, is_some, length, IfSome};
 ghost use Rattle.flow_item.specs.declared.event.Party.TheVariants.{Worker as of_worker};
 ghost use Rattle.flow_item.specs.Events.{parties_of};
 ghost use Rattle.flow_item.specs.Legal.{projection};
@@ -7,7 +7,7 @@ ghost use Rattle.flow_pool.specs.Posts.{IsPostOf};
 ghost use Rattle.flow_book.specs.Answers.{IsSame};
 ghost use Rattle.flow_book.specs.Jobs.{RunsJob, is_submit};
 ghost use Rattle.flow_crew.specs.Bodies.{answers_job};
-ghost use Rattle.flow_crew.specs.Crew.{HasBegun, HasWorked, IsEnded, IsGiven, IsWorker, is_halting, is_refused, is_started};
+ghost use Rattle.flow_crew.specs.Crew.{HasBegun, HasTurned, HasWorked, IsEnded, IsFree, IsGiven, IsWorker, is_halting, is_refused, is_started};
 
 use crate::bodies::Bodies;
 use crate::graph::Graph;
@@ -91,13 +91,8 @@ impl<B: Naming> Worker<B> {
         alloc: Global,
         graph: &Graph<S, G, B>,
     ) -> Turn
-        requires of { IsWorker (S.meanings graph.now.bench.bodies.now) graph.now.book.run graph.now.book.items graph.now.book.events self.old.chair self.old.busy }
-        requires post { IsPostOf graph.now.pool self.old.post }
-        requires idle { self.old.busy ≡ false }
-        ensures of { IsWorker (S.meanings graph.now.bench.bodies.now) graph.now.book.run graph.now.book.items graph.now.book.events self.new.chair self.new.busy }
-        ensures post { IsPostOf graph.now.pool self.new.post }
-        ensures worked { HasWorked self.old.chair self.new.chair }
-        ensures idle { is_refused result ≡ false → self.new.busy ≡ false }
+        requires free { IsFree (S.meanings graph.now.bench.bodies.now) graph.now.book.run graph.now.book.items graph.now.book.events graph.now.pool self.old.chair self.old.post self.old.busy }
+        ensures { HasTurned (S.meanings graph.now.bench.bodies.now) graph.now.book.run graph.now.book.items graph.now.book.events graph.now.pool self.old.chair self.new.chair self.new.post self.new.busy (is_refused result) }
     {
         if self.hunts {
             return self.hunt(rt, alloc, graph);
@@ -119,15 +114,10 @@ impl<B: Naming> Worker<B> {
         alloc: Global,
         graph: &Graph<S, G, B>,
     ) -> Turn
-        requires of { IsWorker (S.meanings graph.now.bench.bodies.now) graph.now.book.run graph.now.book.items graph.now.book.events self.old.chair self.old.busy }
-        requires post { IsPostOf graph.now.pool self.old.post }
-        requires idle { self.old.busy ≡ false }
-        ensures of { IsWorker (S.meanings graph.now.bench.bodies.now) graph.now.book.run graph.now.book.items graph.now.book.events self.new.chair self.new.busy }
-        ensures post { IsPostOf graph.now.pool self.new.post }
-        ensures worked { HasWorked self.old.chair self.new.chair }
-        ensures idle { is_refused result ≡ false → self.new.busy ≡ false }
+        requires free { IsFree (S.meanings graph.now.bench.bodies.now) graph.now.book.run graph.now.book.items graph.now.book.events graph.now.pool self.old.chair self.old.post self.old.busy }
+        ensures { HasTurned (S.meanings graph.now.bench.bodies.now) graph.now.book.run graph.now.book.items graph.now.book.events graph.now.pool self.old.chair self.new.chair self.new.post self.new.busy (is_refused result) }
     {
-        match self.seek(rt, graph) {
+        match Self::seek(rt, graph, &mut self.post) {
             Some(node) => {
                 self.hunts = false;
                 graph.bell.find();
@@ -138,14 +128,17 @@ impl<B: Naming> Worker<B> {
     }
 
     // Takes a node out of the pool, where one is found in so many looks.
-    fn seek<R: Wait, S: Bodies, G: Gate>(&mut self, rt: &R, graph: &Graph<S, G, B>) -> Option<u32>
-        requires post { IsPostOf graph.now.pool self.old.post }
-        ensures post { IsPostOf graph.now.pool self.new.post }
-        ensures same { (self.new.chair ≡ self.old.chair) × (self.new.busy ≡ self.old.busy) }
+    fn seek<R: Wait, S: Bodies, G: Gate>(
+        rt: &R,
+        graph: &Graph<S, G, B>,
+        post: &mut Post,
+    ) -> Option<u32>
+        requires { IsPostOf graph.now.pool post.old }
+        ensures post { IsPostOf graph.now.pool post.new }
         ensures node { IfSome result (λ n. n < length graph.now.book.run.shape.nodes) }
     {
         for _ in 0..LOOKS {
-            if let Some(node) = graph.pool.take(rt, &mut self.post) {
+            if let Some(node) = graph.pool.take(rt, post) {
                 return Some(node);
             }
             spin_loop();
@@ -160,13 +153,8 @@ impl<B: Naming> Worker<B> {
         alloc: Global,
         graph: &Graph<S, G, B>,
     ) -> Turn
-        requires of { IsWorker (S.meanings graph.now.bench.bodies.now) graph.now.book.run graph.now.book.items graph.now.book.events self.old.chair self.old.busy }
-        requires post { IsPostOf graph.now.pool self.old.post }
-        requires idle { self.old.busy ≡ false }
-        ensures of { IsWorker (S.meanings graph.now.bench.bodies.now) graph.now.book.run graph.now.book.items graph.now.book.events self.new.chair self.new.busy }
-        ensures post { IsPostOf graph.now.pool self.new.post }
-        ensures worked { HasWorked self.old.chair self.new.chair }
-        ensures idle { is_refused result ≡ false → self.new.busy ≡ false }
+        requires free { IsFree (S.meanings graph.now.bench.bodies.now) graph.now.book.run graph.now.book.items graph.now.book.events graph.now.pool self.old.chair self.old.post self.old.busy }
+        ensures { HasTurned (S.meanings graph.now.bench.bodies.now) graph.now.book.run graph.now.book.items graph.now.book.events graph.now.pool self.old.chair self.new.chair self.new.post self.new.busy (is_refused result) }
     {
         self.hunts = false;
         let last = graph.bell.listen(self.waits);
@@ -200,14 +188,9 @@ impl<B: Naming> Worker<B> {
         graph: &Graph<S, G, B>,
         node: u32,
     ) -> Turn
-        requires of { IsWorker (S.meanings graph.now.bench.bodies.now) graph.now.book.run graph.now.book.items graph.now.book.events self.old.chair self.old.busy }
-        requires post { IsPostOf graph.now.pool self.old.post }
-        requires idle { self.old.busy ≡ false }
+        requires free { IsFree (S.meanings graph.now.bench.bodies.now) graph.now.book.run graph.now.book.items graph.now.book.events graph.now.pool self.old.chair self.old.post self.old.busy }
         requires node { node < length graph.now.book.run.shape.nodes }
-        ensures of { IsWorker (S.meanings graph.now.bench.bodies.now) graph.now.book.run graph.now.book.items graph.now.book.events self.new.chair self.new.busy }
-        ensures post { IsPostOf graph.now.pool self.new.post }
-        ensures worked { HasWorked self.old.chair self.new.chair }
-        ensures idle { is_refused result ≡ false → self.new.busy ≡ false }
+        ensures { HasTurned (S.meanings graph.now.bench.bodies.now) graph.now.book.run graph.now.book.items graph.now.book.events graph.now.pool self.old.chair self.new.chair self.new.post self.new.busy (is_refused result) }
     {
         if !graph.mark(node).take(rt) {
             return Turn::Served;
@@ -223,14 +206,9 @@ impl<B: Naming> Worker<B> {
         graph: &Graph<S, G, B>,
         node: u32,
     ) -> Turn
-        requires of { IsWorker (S.meanings graph.now.bench.bodies.now) graph.now.book.run graph.now.book.items graph.now.book.events self.old.chair self.old.busy }
-        requires post { IsPostOf graph.now.pool self.old.post }
-        requires idle { self.old.busy ≡ false }
+        requires free { IsFree (S.meanings graph.now.bench.bodies.now) graph.now.book.run graph.now.book.items graph.now.book.events graph.now.pool self.old.chair self.old.post self.old.busy }
         requires node { node < length graph.now.book.run.shape.nodes }
-        ensures of { IsWorker (S.meanings graph.now.bench.bodies.now) graph.now.book.run graph.now.book.items graph.now.book.events self.new.chair self.new.busy }
-        ensures post { IsPostOf graph.now.pool self.new.post }
-        ensures worked { HasWorked self.old.chair self.new.chair }
-        ensures idle { is_refused result ≡ false → self.new.busy ≡ false }
+        ensures { HasTurned (S.meanings graph.now.bench.bodies.now) graph.now.book.run graph.now.book.items graph.now.book.events graph.now.pool self.old.chair self.new.chair self.new.post self.new.busy (is_refused result) }
     {
         for _ in rt.forever() {
             match self.serve(rt, alloc, graph, node) {
@@ -255,14 +233,9 @@ impl<B: Naming> Worker<B> {
         graph: &Graph<S, G, B>,
         node: u32,
     ) -> Step
-        requires of { IsWorker (S.meanings graph.now.bench.bodies.now) graph.now.book.run graph.now.book.items graph.now.book.events self.old.chair self.old.busy }
-        requires post { IsPostOf graph.now.pool self.old.post }
-        requires idle { self.old.busy ≡ false }
+        requires free { IsFree (S.meanings graph.now.bench.bodies.now) graph.now.book.run graph.now.book.items graph.now.book.events graph.now.pool self.old.chair self.old.post self.old.busy }
         requires node { node < length graph.now.book.run.shape.nodes }
-        ensures of { IsWorker (S.meanings graph.now.bench.bodies.now) graph.now.book.run graph.now.book.items graph.now.book.events self.new.chair self.new.busy }
-        ensures post { IsPostOf graph.now.pool self.new.post }
-        ensures worked { HasWorked self.old.chair self.new.chair }
-        ensures idle { is_halting result ≡ false → self.new.busy ≡ false }
+        ensures { HasTurned (S.meanings graph.now.bench.bodies.now) graph.now.book.run graph.now.book.items graph.now.book.events graph.now.pool self.old.chair self.new.chair self.new.post self.new.busy (is_halting result) }
     {
         match graph
             .book
@@ -289,10 +262,7 @@ impl<B: Naming> Worker<B> {
         requires post { IsPostOf graph.now.pool self.old.post }
         requires idle { self.old.busy ≡ false }
         requires given { IsGiven graph.now.book.run self.old.chair did }
-        ensures of { IsWorker (S.meanings graph.now.bench.bodies.now) graph.now.book.run graph.now.book.items graph.now.book.events self.new.chair self.new.busy }
-        ensures post { IsPostOf graph.now.pool self.new.post }
-        ensures worked { HasWorked self.old.chair self.new.chair }
-        ensures idle { is_halting result ≡ false → self.new.busy ≡ false }
+        ensures { HasTurned (S.meanings graph.now.bench.bodies.now) graph.now.book.run graph.now.book.items graph.now.book.events graph.now.pool self.old.chair self.new.chair self.new.post self.new.busy (is_halting result) }
     {
         match did {
             Did::Rest => Step::Rests,
@@ -317,10 +287,7 @@ impl<B: Naming> Worker<B> {
         requires runs { RunsJob graph.now.book.run self.old.chair job }
         requires begun { HasBegun self.old.chair job }
         requires node { job.node < length graph.now.book.run.shape.nodes }
-        ensures of { IsWorker (S.meanings graph.now.bench.bodies.now) graph.now.book.run graph.now.book.items graph.now.book.events self.new.chair self.new.busy }
-        ensures post { IsPostOf graph.now.pool self.new.post }
-        ensures worked { HasWorked self.old.chair self.new.chair }
-        ensures idle { is_halting result ≡ false → self.new.busy ≡ false }
+        ensures { HasTurned (S.meanings graph.now.bench.bodies.now) graph.now.book.run graph.now.book.items graph.now.book.events graph.now.pool self.old.chair self.new.chair self.new.post self.new.busy (is_halting result) }
     {
         self.busy = true;
         graph.bell.tell();
@@ -349,10 +316,7 @@ impl<B: Naming> Worker<B> {
         requires body { is_submit job.body ≡ false }
         requires answers { answers_job (S.meanings graph.now.bench.bodies.now) job.body job.item outs ≡ true }
         requires node { job.node < length graph.now.book.run.shape.nodes }
-        ensures of { IsWorker (S.meanings graph.now.bench.bodies.now) graph.now.book.run graph.now.book.items graph.now.book.events self.new.chair self.new.busy }
-        ensures post { IsPostOf graph.now.pool self.new.post }
-        ensures worked { HasWorked self.old.chair self.new.chair }
-        ensures idle { is_halting result ≡ false → self.new.busy ≡ false }
+        ensures { HasTurned (S.meanings graph.now.bench.bodies.now) graph.now.book.run graph.now.book.items graph.now.book.events graph.now.pool self.old.chair self.new.chair self.new.post self.new.busy (is_halting result) }
     {
         let node = job.node;
         if !self.end(rt, alloc, graph, job, outs) {
@@ -474,13 +438,8 @@ impl<B: Naming> Worker<B> {
         alloc: Global,
         graph: &Graph<S, G, B>,
     ) -> Option<Waited>
-        requires of { IsWorker (S.meanings graph.now.bench.bodies.now) graph.now.book.run graph.now.book.items graph.now.book.events self.old.chair self.old.busy }
-        requires post { IsPostOf graph.now.pool self.old.post }
-        requires idle { self.old.busy ≡ false }
-        ensures of { IsWorker (S.meanings graph.now.bench.bodies.now) graph.now.book.run graph.now.book.items graph.now.book.events self.new.chair self.new.busy }
-        ensures post { IsPostOf graph.now.pool self.new.post }
-        ensures worked { HasWorked self.old.chair self.new.chair }
-        ensures idle { IfNone result (self.new.busy ≡ false) }
+        requires free { IsFree (S.meanings graph.now.bench.bodies.now) graph.now.book.run graph.now.book.items graph.now.book.events graph.now.pool self.old.chair self.old.post self.old.busy }
+        ensures turned { HasTurned (S.meanings graph.now.bench.bodies.now) graph.now.book.run graph.now.book.items graph.now.book.events graph.now.pool self.old.chair self.new.chair self.new.post self.new.busy (is_some result) }
         ensures ended { IfSome result (λ w. IsEnded graph.now.book.run self.old.chair w self.new.chair) }
     {
         match self.turn(rt, alloc, graph) {

@@ -1,15 +1,15 @@
 //! Callers and workers of a graph of one node, in several threads.
-ghost use Rattle.std.specs.Prelude.{◌≡◌, ◌<◌, ◌≤◌, ◌^◌, [], true, length, map, All};
+ghost use Rattle.std.specs.Prelude.{◌≡◌, ◌<◌, ◌≤◌, ◌^◌, [], true, length, All};
 ghost use Rattle.std.specs.List.{list_all};
 ghost use Rattle.flow_doc.specs.Fits.{doc_fits};
 ghost use Rattle.flow_node.specs.Built.{is_built};
-ghost use Rattle.flow_pool.specs.Posts.{IsPostOf};
-ghost use Rattle.flow_book.specs.Callers.{may_call, takes_puts};
-ghost use Rattle.flow_crew.specs.Crew.{IsCaller, IsWorker};
+ghost use Rattle.flow_book.specs.Answers.{about_of};
+ghost use Rattle.flow_book.specs.Callers.{takes_puts};
+ghost use Rattle.flow_tests_crew.specs.Tried.{MayCall, MayWork};
 
 use crate::trials::{alone, event_letter, four_scripts, leave, opened_parts, put, wait, work};
 use flow_book::GraphMachine;
-use flow_crew::{Bodies, Builtin, Caller, Gate, Graph, NoGate, Parts, Waited, Worker};
+use flow_crew::{Bodies, Builtin, Caller, Gate, Graph, NoGate, Parts, Worker};
 use flow_doc::Doc;
 use flow_item::{Event, Journal, Val};
 use flow_line::{Naming, Opened};
@@ -32,6 +32,11 @@ struct Site<'a, R: Wait + Abort, S: Bodies, G: Gate, B: Naming> {
     waits: bool,
 }
 
+// Whether it is so.
+fn holds(rt: &impl Abort, is: bool) {
+    assert!(rt; is);
+}
+
 // A caller puts so many values. How many were accepted or refused by the node.
 fn put_all<B: Naming, R: Wait, S: Bodies, G: Gate>(
     rt: &R,
@@ -40,15 +45,9 @@ fn put_all<B: Naming, R: Wait, S: Bodies, G: Gate>(
     caller: &mut Caller<B>,
     count: u64,
 ) -> u64
-    requires of { IsCaller (S.meanings graph.now.bench.bodies.now) graph.now.book.run graph.now.book.items graph.now.book.events caller.old.chair }
-    requires worker { IsWorker (S.meanings graph.now.bench.bodies.now) graph.now.book.run graph.now.book.items graph.now.book.events caller.old.worker.chair caller.old.worker.busy }
-    requires post { IsPostOf graph.now.pool caller.old.worker.post }
-    requires calls { may_call graph.now.book.run caller.old.chair ≡ true }
+    requires calls { MayCall (S.meanings graph.now.bench.bodies.now) graph.now.book.run graph.now.book.items graph.now.book.events graph.now.pool caller.old.chair caller.old.worker.chair caller.old.worker.busy caller.old.worker.post }
     requires puts { takes_puts graph.now.book.run.shape 0 0 ≡ true }
-    ensures of { IsCaller (S.meanings graph.now.bench.bodies.now) graph.now.book.run graph.now.book.items graph.now.book.events caller.new.chair }
-    ensures worker { IsWorker (S.meanings graph.now.bench.bodies.now) graph.now.book.run graph.now.book.items graph.now.book.events caller.new.worker.chair caller.new.worker.busy }
-    ensures post { IsPostOf graph.now.pool caller.new.worker.post }
-    ensures calls { may_call graph.now.book.run caller.new.chair ≡ true }
+    ensures { MayCall (S.meanings graph.now.bench.bodies.now) graph.now.book.run graph.now.book.items graph.now.book.events graph.now.pool caller.new.chair caller.new.worker.chair caller.new.worker.busy caller.new.worker.post }
 {
     for tag in 0..count {
         if put(rt, alloc, graph, caller, tag).is_err() {
@@ -66,17 +65,11 @@ fn wait_where<B: Naming, R: Wait, S: Bodies, G: Gate>(
     caller: &mut Caller<B>,
     waits: bool,
 ) -> bool
-    requires of { IsCaller (S.meanings graph.now.bench.bodies.now) graph.now.book.run graph.now.book.items graph.now.book.events caller.old.chair }
-    requires worker { IsWorker (S.meanings graph.now.bench.bodies.now) graph.now.book.run graph.now.book.items graph.now.book.events caller.old.worker.chair caller.old.worker.busy }
-    requires post { IsPostOf graph.now.pool caller.old.worker.post }
-    requires calls { may_call graph.now.book.run caller.old.chair ≡ true }
-    ensures of { IsCaller (S.meanings graph.now.bench.bodies.now) graph.now.book.run graph.now.book.items graph.now.book.events caller.new.chair }
-    ensures worker { IsWorker (S.meanings graph.now.bench.bodies.now) graph.now.book.run graph.now.book.items graph.now.book.events caller.new.worker.chair caller.new.worker.busy }
-    ensures post { IsPostOf graph.now.pool caller.new.worker.post }
-    ensures calls { may_call graph.now.book.run caller.new.chair ≡ true }
+    requires { MayCall (S.meanings graph.now.bench.bodies.now) graph.now.book.run graph.now.book.items graph.now.book.events graph.now.pool caller.old.chair caller.old.worker.chair caller.old.worker.busy caller.old.worker.post }
+    ensures { MayCall (S.meanings graph.now.bench.bodies.now) graph.now.book.run graph.now.book.items graph.now.book.events graph.now.pool caller.new.chair caller.new.worker.chair caller.new.worker.busy caller.new.worker.post }
 {
     if waits {
-        matches!(wait(rt, alloc, graph, caller), Waited::Quiet)
+        wait(rt, alloc, graph, caller) == b'q'
     } else {
         true
     }
@@ -90,17 +83,13 @@ fn call<B: Naming, R: Wait + Abort, S: Bodies, G: Gate>(
     caller: &mut Caller<B>,
     waits: bool,
 )
-    requires of { IsCaller (S.meanings graph.now.bench.bodies.now) graph.now.book.run graph.now.book.items graph.now.book.events caller.old.chair }
-    requires worker { IsWorker (S.meanings graph.now.bench.bodies.now) graph.now.book.run graph.now.book.items graph.now.book.events caller.old.worker.chair caller.old.worker.busy }
-    requires post { IsPostOf graph.now.pool caller.old.worker.post }
-    requires calls { may_call graph.now.book.run caller.old.chair ≡ true }
+    requires calls { MayCall (S.meanings graph.now.bench.bodies.now) graph.now.book.run graph.now.book.items graph.now.book.events graph.now.pool caller.old.chair caller.old.worker.chair caller.old.worker.busy caller.old.worker.post }
     requires puts { takes_puts graph.now.book.run.shape 0 0 ≡ true }
-    ensures of { IsCaller (S.meanings graph.now.bench.bodies.now) graph.now.book.run graph.now.book.items graph.now.book.events caller.new.chair }
-    ensures worker { IsWorker (S.meanings graph.now.bench.bodies.now) graph.now.book.run graph.now.book.items graph.now.book.events caller.new.worker.chair caller.new.worker.busy }
+    ensures { (caller.new.chair.about ≡ about_of graph.now.book.run graph.now.book.items graph.now.book.events) × (caller.new.worker.chair.about ≡ about_of graph.now.book.run graph.now.book.items graph.now.book.events) }
 {
-    assert!(rt; put_all(rt, alloc, graph, caller, 25) == 25);
-    assert!(rt; wait_where(rt, alloc, graph, caller, waits));
-    assert!(rt; leave(rt, graph, caller).is_ok());
+    holds(rt, put_all(rt, alloc, graph, caller, 25) == 25);
+    holds(rt, wait_where(rt, alloc, graph, caller, waits));
+    holds(rt, leave(rt, graph, caller));
 }
 
 // A worker works until all have left and nothing is open.
@@ -110,11 +99,10 @@ fn serve<B: Naming, R: Wait + Abort, S: Bodies, G: Gate>(
     graph: &Graph<S, G, B>,
     worker: &mut Worker<B>,
 )
-    requires of { IsWorker (S.meanings graph.now.bench.bodies.now) graph.now.book.run graph.now.book.items graph.now.book.events worker.old.chair worker.old.busy }
-    requires post { IsPostOf graph.now.pool worker.old.post }
-    ensures { IsWorker (S.meanings graph.now.bench.bodies.now) graph.now.book.run graph.now.book.items graph.now.book.events worker.new.chair worker.new.busy }
+    requires { MayWork (S.meanings graph.now.bench.bodies.now) graph.now.book.run graph.now.book.items graph.now.book.events graph.now.pool worker.old.chair worker.old.busy worker.old.post }
+    ensures { worker.new.chair.about ≡ about_of graph.now.book.run graph.now.book.items graph.now.book.events }
 {
-    assert!(rt; matches!(work(rt, alloc, graph, worker), Waited::Quiet));
+    holds(rt, work(rt, alloc, graph, worker) == b'q');
 }
 
 // All callers call, each in a thread of its own.
@@ -122,18 +110,18 @@ fn call_all<B: Naming + Send + Sync, R: Threads + Wait + Abort + Sync, S: Bodies
     site: &Site<R, S, G, B>,
     callers: &mut [Caller<B>],
 )
-    requires ready { All (λ c. IsCaller (S.meanings site.now.graph.now.bench.bodies.now) site.now.graph.now.book.run site.now.graph.now.book.items site.now.graph.now.book.events c.chair × (may_call site.now.graph.now.book.run c.chair ≡ true) × IsWorker (S.meanings site.now.graph.now.bench.bodies.now) site.now.graph.now.book.run site.now.graph.now.book.items site.now.graph.now.book.events c.worker.chair c.worker.busy × IsPostOf site.now.graph.now.pool c.worker.post) callers.old }
+    requires calls { All (λ c. MayCall (S.meanings site.now.graph.now.bench.bodies.now) site.now.graph.now.book.run site.now.graph.now.book.items site.now.graph.now.book.events site.now.graph.now.pool c.chair c.worker.chair c.worker.busy c.worker.post) callers.old }
     requires puts { takes_puts site.now.graph.now.book.run.shape 0 0 ≡ true }
-    ensures { All (λ c. IsCaller (S.meanings site.now.graph.now.bench.bodies.now) site.now.graph.now.book.run site.now.graph.now.book.items site.now.graph.now.book.events c.chair × IsWorker (S.meanings site.now.graph.now.bench.bodies.now) site.now.graph.now.book.run site.now.graph.now.book.items site.now.graph.now.book.events c.worker.chair c.worker.busy) callers.new }
+    ensures { All (λ c. (c.chair.about ≡ about_of site.now.graph.now.book.run site.now.graph.now.book.items site.now.graph.now.book.events) × (c.worker.chair.about ≡ about_of site.now.graph.now.book.run site.now.graph.now.book.items site.now.graph.now.book.events)) callers.new }
 {
     thread::for_each_mut(
         site.rt,
         callers,
         64,
         &|_, caller: &mut Caller<B>|
-            requires ready { IsCaller (S.meanings site.now.graph.now.bench.bodies.now) site.now.graph.now.book.run site.now.graph.now.book.items site.now.graph.now.book.events caller.old.chair × (may_call site.now.graph.now.book.run caller.old.chair ≡ true) × IsWorker (S.meanings site.now.graph.now.bench.bodies.now) site.now.graph.now.book.run site.now.graph.now.book.items site.now.graph.now.book.events caller.old.worker.chair caller.old.worker.busy × IsPostOf site.now.graph.now.pool caller.old.worker.post }
+            requires calls { MayCall (S.meanings site.now.graph.now.bench.bodies.now) site.now.graph.now.book.run site.now.graph.now.book.items site.now.graph.now.book.events site.now.graph.now.pool caller.old.chair caller.old.worker.chair caller.old.worker.busy caller.old.worker.post }
             requires puts { takes_puts site.now.graph.now.book.run.shape 0 0 ≡ true }
-            ensures { IsCaller (S.meanings site.entry.now.graph.now.bench.bodies.now) site.entry.now.graph.now.book.run site.entry.now.graph.now.book.items site.entry.now.graph.now.book.events caller.new.chair × IsWorker (S.meanings site.entry.now.graph.now.bench.bodies.now) site.entry.now.graph.now.book.run site.entry.now.graph.now.book.items site.entry.now.graph.now.book.events caller.new.worker.chair caller.new.worker.busy }
+            ensures { (caller.new.chair.about ≡ about_of site.entry.now.graph.now.book.run site.entry.now.graph.now.book.items site.entry.now.graph.now.book.events) × (caller.new.worker.chair.about ≡ about_of site.entry.now.graph.now.book.run site.entry.now.graph.now.book.items site.entry.now.graph.now.book.events) }
         { call(site.rt, site.alloc, site.graph, caller, site.waits) },
     );
 }
@@ -143,16 +131,16 @@ fn serve_all<B: Naming + Send + Sync, R: Threads + Wait + Abort + Sync, S: Bodie
     site: &Site<R, S, G, B>,
     workers: &mut [Worker<B>],
 )
-    requires { All (λ w. IsWorker (S.meanings site.now.graph.now.bench.bodies.now) site.now.graph.now.book.run site.now.graph.now.book.items site.now.graph.now.book.events w.chair w.busy × IsPostOf site.now.graph.now.pool w.post) workers.old }
-    ensures { All (λ w. IsWorker (S.meanings site.now.graph.now.bench.bodies.now) site.now.graph.now.book.run site.now.graph.now.book.items site.now.graph.now.book.events w.chair w.busy) workers.new }
+    requires { All (λ w. MayWork (S.meanings site.now.graph.now.bench.bodies.now) site.now.graph.now.book.run site.now.graph.now.book.items site.now.graph.now.book.events site.now.graph.now.pool w.chair w.busy w.post) workers.old }
+    ensures { All (λ w. w.chair.about ≡ about_of site.now.graph.now.book.run site.now.graph.now.book.items site.now.graph.now.book.events) workers.new }
 {
     thread::for_each_mut(
         site.rt,
         workers,
         64,
         &|_, worker: &mut Worker<B>|
-            requires { IsWorker (S.meanings site.now.graph.now.bench.bodies.now) site.now.graph.now.book.run site.now.graph.now.book.items site.now.graph.now.book.events worker.old.chair worker.old.busy × IsPostOf site.now.graph.now.pool worker.old.post }
-            ensures { IsWorker (S.meanings site.entry.now.graph.now.bench.bodies.now) site.entry.now.graph.now.book.run site.entry.now.graph.now.book.items site.entry.now.graph.now.book.events worker.new.chair worker.new.busy }
+            requires { MayWork (S.meanings site.now.graph.now.bench.bodies.now) site.now.graph.now.book.run site.now.graph.now.book.items site.now.graph.now.book.events site.now.graph.now.pool worker.old.chair worker.old.busy worker.old.post }
+            ensures { worker.new.chair.about ≡ about_of site.entry.now.graph.now.book.run site.entry.now.graph.now.book.items site.entry.now.graph.now.book.events }
         { serve(site.rt, site.alloc, site.graph, worker) },
     );
 }
@@ -166,11 +154,11 @@ fn run_parts<B: Naming + Send + Sync, R: Threads + Wait + Abort + Sync, S: Bodie
     workers: &mut [Worker<B>],
     waits: bool,
 )
-    requires ready { All (λ c. IsCaller (S.meanings graph.now.bench.bodies.now) graph.now.book.run graph.now.book.items graph.now.book.events c.chair × (may_call graph.now.book.run c.chair ≡ true) × IsWorker (S.meanings graph.now.bench.bodies.now) graph.now.book.run graph.now.book.items graph.now.book.events c.worker.chair c.worker.busy × IsPostOf graph.now.pool c.worker.post) callers.old }
+    requires calls { All (λ c. MayCall (S.meanings graph.now.bench.bodies.now) graph.now.book.run graph.now.book.items graph.now.book.events graph.now.pool c.chair c.worker.chair c.worker.busy c.worker.post) callers.old }
     requires puts { takes_puts graph.now.book.run.shape 0 0 ≡ true }
-    requires hired { All (λ w. IsWorker (S.meanings graph.now.bench.bodies.now) graph.now.book.run graph.now.book.items graph.now.book.events w.chair w.busy × IsPostOf graph.now.pool w.post) workers.old }
-    ensures called { All (λ c. IsCaller (S.meanings graph.now.bench.bodies.now) graph.now.book.run graph.now.book.items graph.now.book.events c.chair × IsWorker (S.meanings graph.now.bench.bodies.now) graph.now.book.run graph.now.book.items graph.now.book.events c.worker.chair c.worker.busy) callers.new }
-    ensures worked { All (λ w. IsWorker (S.meanings graph.now.bench.bodies.now) graph.now.book.run graph.now.book.items graph.now.book.events w.chair w.busy) workers.new }
+    requires works { All (λ w. MayWork (S.meanings graph.now.bench.bodies.now) graph.now.book.run graph.now.book.items graph.now.book.events graph.now.pool w.chair w.busy w.post) workers.old }
+    ensures called { All (λ c. (c.chair.about ≡ about_of graph.now.book.run graph.now.book.items graph.now.book.events) × (c.worker.chair.about ≡ about_of graph.now.book.run graph.now.book.items graph.now.book.events)) callers.new }
+    ensures worked { All (λ w. w.chair.about ≡ about_of graph.now.book.run graph.now.book.items graph.now.book.events) workers.new }
     ensures counts { (length callers.new ≡ length callers.old) × (length workers.new ≡ length workers.old) }
 {
     let site = Site {

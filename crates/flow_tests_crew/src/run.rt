@@ -1,5 +1,6 @@
 //! Small documents, run on threads.
-ghost use Rattle.std.specs.Prelude.{◌≡◌, ◌<◌, ◌≤◌, ◌^◌, ◌∷◌, [], true, pos};
+ghost use Rattle.std.specs.Prelude.{◌≡◌, ◌<◌, ◌≤◌, ◌^◌, ◌∷◌, [], true, false, Some, None, pos, length};
+ghost use Rattle.flow_shape.specs.declared.Kind.TheVariants as K;
 ghost use Rattle.std.specs.List.{list_all};
 ghost use Rattle.flow_item.specs.declared.val.Val.TheVariants as V;
 ghost use Rattle.flow_shape.specs.declared.Step.TheVariants as T;
@@ -21,36 +22,70 @@ fn name(rt: &impl Abort, alloc: Global, text: &str) -> Text {
     Text::of(alloc, text).ok().expect(rt, "memory")
 }
 
+// The step that puts 5 to the first node.
+fn step(tag: u64) -> Step
+    ensures { result ≡ T.Put 0 0 tag (V.Int (pos 5)) }
+{
+    Step::Put {
+        node: 0,
+        port: 0,
+        tag,
+        val: Val::Int(5),
+    }
+}
+
 // A caller that puts 5 to the first node, waits, and puts 5 once more.
 fn scripts(rt: &impl Abort, alloc: Global) -> Scripts
     ensures { result ≡ (T.Put 0 0 0 (V.Int (pos 5)) ∷ T.Wait ∷ T.Put 0 0 1 (V.Int (pos 5)) ∷ []) ∷ [] }
 {
-    let mut steps = Vec::new(alloc);
-    steps
-        .push(Step::Put {
-            node: 0,
-            port: 0,
-            tag: 0,
-            val: Val::Int(5),
-        })
+    let steps = vec![in alloc; step(0), Step::Wait, step(1)]
         .ok()
         .expect(rt, "memory");
-    steps.push(Step::Wait).ok().expect(rt, "memory");
-    steps
-        .push(Step::Put {
-            node: 0,
-            port: 0,
-            tag: 1,
-            val: Val::Int(5),
-        })
-        .ok()
-        .expect(rt, "memory");
-    let mut scripts = Vec::new(alloc);
-    scripts
-        .push(Items::from_vec(steps))
+    let scripts = vec![in alloc; Items::from_vec(steps)]
         .ok()
         .expect(rt, "memory");
     Scripts::from_vec(scripts)
+}
+
+// The names of two nodes.
+fn names(rt: &impl Abort, alloc: Global) -> Names
+    ensures { length result ≡ 2 }
+{
+    let names = vec![in alloc; name(rt, alloc, "f"), name(rt, alloc, "q")];
+    Names::from_vec(names.ok().expect(rt, "memory"))
+}
+
+// A function that adds 1.
+fn function() -> Kind
+    ensures { result ≡ K.Function false (Some 1) 0 (V.Int (pos 1)) }
+{
+    Kind::Function {
+        reject: false,
+        limit: Some(1),
+        body: 0,
+        arg: Val::Int(1),
+    }
+}
+
+// A function that adds 1, and a queue.
+fn kinds(rt: &impl Abort, alloc: Global) -> Kinds
+    ensures { result ≡ K.Function false (Some 1) 0 (V.Int (pos 1)) ∷ K.Queue None ∷ [] }
+{
+    let nodes = vec![in alloc; function(), Kind::Queue { capacity: None }];
+    Kinds::from_vec(nodes.ok().expect(rt, "memory"))
+}
+
+// The edge from the function to the queue.
+fn edges(rt: &impl Abort, alloc: Global) -> Edges
+    ensures { result ≡ record { from = 0; out = 0; to = 1; port = 0 } ∷ [] }
+{
+    let edge = Edge {
+        from: 0,
+        out: 0,
+        to: 1,
+        port: 0,
+    };
+    Edges::from_vec(vec![in alloc; edge].ok().expect(rt, "memory"))
 }
 
 // A function that adds 1, before a queue.
@@ -59,42 +94,14 @@ fn function_into_queue(rt: &impl Abort, alloc: Global) -> Doc
     ensures built { list_all is_built result.shape.nodes ≡ true }
     ensures version { result.version < 3 }
 {
-    let mut names = Vec::new(alloc);
-    names.push(name(rt, alloc, "f")).ok().expect(rt, "memory");
-    names.push(name(rt, alloc, "q")).ok().expect(rt, "memory");
-    let mut nodes = Vec::new(alloc);
-    nodes
-        .push(Kind::Function {
-            reject: false,
-            limit: Some(1),
-            body: 0,
-            arg: Val::Int(1),
-        })
-        .ok()
-        .expect(rt, "memory");
-    nodes
-        .push(Kind::Queue { capacity: None })
-        .ok()
-        .expect(rt, "memory");
-    let mut edges = Vec::new(alloc);
-    edges
-        .push(Edge {
-            from: 0,
-            out: 0,
-            to: 1,
-            port: 0,
-        })
-        .ok()
-        .expect(rt, "memory");
-    let scripts = scripts(rt, alloc);
     Doc {
         version: 1,
-        names: Names::from_vec(names),
+        names: names(rt, alloc),
         shape: Shape {
-            nodes: Kinds::from_vec(nodes),
-            edges: Edges::from_vec(edges),
+            nodes: kinds(rt, alloc),
+            edges: edges(rt, alloc),
         },
-        scripts,
+        scripts: scripts(rt, alloc),
         sinks: Nodes::new(alloc),
     }
 }

@@ -3,10 +3,9 @@ ghost use Rattle.std.specs.Prelude.{◌≡◌, ◌+◌, ◌<◌, ◌≤◌, ◌^
 ghost use Rattle.std.specs.List.{list_all};
 ghost use Rattle.flow_doc.specs.Fits.{doc_fits};
 ghost use Rattle.flow_node.specs.Built.{is_built};
-ghost use Rattle.flow_pool.specs.Posts.{IsPostOf};
-ghost use Rattle.flow_book.specs.Callers.{may_call, takes_puts};
-ghost use Rattle.flow_crew.specs.Crew.{IsCaller, IsWorker};
-ghost use Rattle.flow_tests_crew.specs.Tried.{is_tried};
+ghost use Rattle.flow_book.specs.Answers.{about_of};
+ghost use Rattle.flow_book.specs.Callers.{takes_puts};
+ghost use Rattle.flow_tests_crew.specs.Tried.{MayCall, MayWork, is_tried};
 
 use flow_book::{GraphMachine, Seats};
 use flow_crew::{Bodies, Caller, Gate, Graph, Parts, Waited, Worker};
@@ -22,40 +21,35 @@ use std::sync::Wait;
 pub(crate) fn one_script(rt: &impl Abort, alloc: Global) -> Scripts
     ensures { result ≡ [] ∷ [] }
 {
-    let mut scripts = Vec::new(alloc);
-    scripts.push(Items::new(alloc)).ok().expect(rt, "memory");
-    Scripts::from_vec(scripts)
+    Scripts::from_vec(vec![in alloc; Items::new(alloc)].ok().expect(rt, "memory"))
 }
 
 /// A script of no steps for each of four callers.
 pub(crate) fn four_scripts(rt: &impl Abort, alloc: Global) -> Scripts
     ensures { result ≡ [] ∷ [] ∷ [] ∷ [] ∷ [] }
 {
-    let mut scripts = Vec::new(alloc);
-    scripts.push(Items::new(alloc)).ok().expect(rt, "memory");
-    scripts.push(Items::new(alloc)).ok().expect(rt, "memory");
-    scripts.push(Items::new(alloc)).ok().expect(rt, "memory");
-    scripts.push(Items::new(alloc)).ok().expect(rt, "memory");
-    Scripts::from_vec(scripts)
+    let scripts = vec![in alloc;
+        Items::new(alloc),
+        Items::new(alloc),
+        Items::new(alloc),
+        Items::new(alloc),
+    ];
+    Scripts::from_vec(scripts.ok().expect(rt, "memory"))
 }
 
 // One name, of no letters.
 fn one_name(rt: &impl Abort, alloc: Global) -> Names
     ensures { result ≡ [] ∷ [] }
 {
-    let mut names = Vec::new(alloc);
     let name = Text::from_string(String::new(alloc));
-    names.push(name).ok().expect(rt, "memory");
-    Names::from_vec(names)
+    Names::from_vec(vec![in alloc; name].ok().expect(rt, "memory"))
 }
 
 // One node.
 fn one_kind(rt: &impl Abort, alloc: Global, kind: Kind) -> Kinds
     ensures { result ≡ kind ∷ [] }
 {
-    let mut nodes = Vec::new(alloc);
-    nodes.push(kind).ok().expect(rt, "memory");
-    Kinds::from_vec(nodes)
+    Kinds::from_vec(vec![in alloc; kind].ok().expect(rt, "memory"))
 }
 
 /// A document of this node alone and these scripts.
@@ -97,8 +91,8 @@ pub(crate) fn opened_parts<'a, B: Naming, R: Abort, S: Bodies, G: Gate>(
     requires workers { (0 < workers) × (workers ≤ 64) }
     requires callers { length doc.now.scripts ≤ 64 }
     requires limits { (items < 2 ^ 62) × (events < 2 ^ 62) }
-    ensures ready { All (λ c. IsCaller (S.meanings result.graph.bench.bodies.now) result.graph.book.run result.graph.book.items result.graph.book.events c.chair × (may_call result.graph.book.run c.chair ≡ true) × IsWorker (S.meanings result.graph.bench.bodies.now) result.graph.book.run result.graph.book.items result.graph.book.events c.worker.chair c.worker.busy × IsPostOf result.graph.pool c.worker.post) result.callers.items }
-    ensures hired { All (λ w. IsWorker (S.meanings result.graph.bench.bodies.now) result.graph.book.run result.graph.book.items result.graph.book.events w.chair w.busy × IsPostOf result.graph.pool w.post) result.workers.items }
+    ensures ready { All (λ c. MayCall (S.meanings result.graph.bench.bodies.now) result.graph.book.run result.graph.book.items result.graph.book.events result.graph.pool c.chair c.worker.chair c.worker.busy c.worker.post) result.callers.items }
+    ensures hired { All (λ w. MayWork (S.meanings result.graph.bench.bodies.now) result.graph.book.run result.graph.book.items result.graph.book.events result.graph.pool w.chair w.busy w.post) result.workers.items }
     ensures puts { takes_puts result.graph.book.run.shape 0 0 ≡ true }
     ensures counts { (length result.callers.items ≡ length doc.now.scripts) × (length result.workers.items ≡ workers) }
     ensures empty { (result.seats.callers.items ≡ []) × (result.seats.workers.items ≡ []) }
@@ -136,12 +130,8 @@ pub(crate) fn opened_pair<'a, B: Naming, R: Abort, S: Bodies, G: Gate>(
     requires puts { takes_puts doc.now.shape 0 0 ≡ true }
     requires one { length doc.now.scripts ≡ 1 }
     requires limits { (items < 2 ^ 62) × (events < 2 ^ 62) }
-    ensures of { IsCaller (S.meanings result.graph.bench.bodies.now) result.graph.book.run result.graph.book.items result.graph.book.events result.caller.chair }
-    ensures calls { may_call result.graph.book.run result.caller.chair ≡ true }
-    ensures waiter { IsWorker (S.meanings result.graph.bench.bodies.now) result.graph.book.run result.graph.book.items result.graph.book.events result.caller.worker.chair result.caller.worker.busy }
-    ensures waiter_post { IsPostOf result.graph.pool result.caller.worker.post }
-    ensures worker { IsWorker (S.meanings result.graph.bench.bodies.now) result.graph.book.run result.graph.book.items result.graph.book.events result.worker.chair result.worker.busy }
-    ensures worker_post { IsPostOf result.graph.pool result.worker.post }
+    ensures calls { MayCall (S.meanings result.graph.bench.bodies.now) result.graph.book.run result.graph.book.items result.graph.book.events result.graph.pool result.caller.chair result.caller.worker.chair result.caller.worker.busy result.caller.worker.post }
+    ensures works { MayWork (S.meanings result.graph.bench.bodies.now) result.graph.book.run result.graph.book.items result.graph.book.events result.graph.pool result.worker.chair result.worker.busy result.worker.post }
     ensures puts { takes_puts result.graph.book.run.shape 0 0 ≡ true }
     ensures empty { (result.seats.callers.items ≡ []) × (result.seats.workers.items ≡ []) }
     ensures room { (1 ≤ result.seats.callers.spare) × (2 ≤ result.seats.workers.spare) }
@@ -174,72 +164,79 @@ pub(crate) fn put<B: Naming, R: Wait, S: Bodies, G: Gate>(
     caller: &mut Caller<B>,
     tag: u64,
 ) -> Result<PutAnswer, Stop>
-    requires of { IsCaller (S.meanings graph.now.bench.bodies.now) graph.now.book.run graph.now.book.items graph.now.book.events caller.old.chair }
-    requires worker { IsWorker (S.meanings graph.now.bench.bodies.now) graph.now.book.run graph.now.book.items graph.now.book.events caller.old.worker.chair caller.old.worker.busy }
-    requires post { IsPostOf graph.now.pool caller.old.worker.post }
-    requires calls { may_call graph.now.book.run caller.old.chair ≡ true }
+    requires calls { MayCall (S.meanings graph.now.bench.bodies.now) graph.now.book.run graph.now.book.items graph.now.book.events graph.now.pool caller.old.chair caller.old.worker.chair caller.old.worker.busy caller.old.worker.post }
     requires puts { takes_puts graph.now.book.run.shape 0 0 ≡ true }
-    ensures of { IsCaller (S.meanings graph.now.bench.bodies.now) graph.now.book.run graph.now.book.items graph.now.book.events caller.new.chair }
-    ensures worker { IsWorker (S.meanings graph.now.bench.bodies.now) graph.now.book.run graph.now.book.items graph.now.book.events caller.new.worker.chair caller.new.worker.busy }
-    ensures post { IsPostOf graph.now.pool caller.new.worker.post }
-    ensures calls { may_call graph.now.book.run caller.new.chair ≡ true }
+    ensures { MayCall (S.meanings graph.now.bench.bodies.now) graph.now.book.run graph.now.book.items graph.now.book.events graph.now.pool caller.new.chair caller.new.worker.chair caller.new.worker.busy caller.new.worker.post }
 {
-    match caller.put(rt, alloc, graph, 0, 0, tag, &Val::Int(5)) {
-        Ok(answer) => Ok(answer),
-        Err(stop) => Err(stop),
+    let answer = caller.put(rt, alloc, graph, 0, 0, tag, &Val::Int(5));
+    answer
+}
+
+// The letter of a wait's end.
+fn letter(waited: Waited) -> u8 {
+    match waited {
+        Waited::Quiet => b'q',
+        Waited::Halted(Stop::Limit) => b'l',
+        Waited::Halted(Stop::Memory) => b'm',
     }
 }
 
-/// A caller waits until nothing is open.
+/// A caller waits until nothing is open. The letter of the wait's end.
 pub(crate) fn wait<B: Naming, R: Wait, S: Bodies, G: Gate>(
     rt: &R,
     alloc: Global,
     graph: &Graph<S, G, B>,
     caller: &mut Caller<B>,
-) -> Waited
-    requires of { IsCaller (S.meanings graph.now.bench.bodies.now) graph.now.book.run graph.now.book.items graph.now.book.events caller.old.chair }
-    requires worker { IsWorker (S.meanings graph.now.bench.bodies.now) graph.now.book.run graph.now.book.items graph.now.book.events caller.old.worker.chair caller.old.worker.busy }
-    requires post { IsPostOf graph.now.pool caller.old.worker.post }
-    requires calls { may_call graph.now.book.run caller.old.chair ≡ true }
-    ensures of { IsCaller (S.meanings graph.now.bench.bodies.now) graph.now.book.run graph.now.book.items graph.now.book.events caller.new.chair }
-    ensures worker { IsWorker (S.meanings graph.now.bench.bodies.now) graph.now.book.run graph.now.book.items graph.now.book.events caller.new.worker.chair caller.new.worker.busy }
-    ensures post { IsPostOf graph.now.pool caller.new.worker.post }
-    ensures calls { may_call graph.now.book.run caller.new.chair ≡ true }
+) -> u8
+    requires { MayCall (S.meanings graph.now.bench.bodies.now) graph.now.book.run graph.now.book.items graph.now.book.events graph.now.pool caller.old.chair caller.old.worker.chair caller.old.worker.busy caller.old.worker.post }
+    ensures { MayCall (S.meanings graph.now.bench.bodies.now) graph.now.book.run graph.now.book.items graph.now.book.events graph.now.pool caller.new.chair caller.new.worker.chair caller.new.worker.busy caller.new.worker.post }
 {
-    caller.wait_for_all(rt, alloc, graph)
+    letter(caller.wait_for_all(rt, alloc, graph))
 }
 
-/// A caller leaves.
+/// A caller leaves. Whether it could.
 pub(crate) fn leave<B: Naming, R: Wait, S: Bodies, G: Gate>(
     rt: &R,
     graph: &Graph<S, G, B>,
     caller: &mut Caller<B>,
-) -> Result<(), Stop>
-    requires of { IsCaller (S.meanings graph.now.bench.bodies.now) graph.now.book.run graph.now.book.items graph.now.book.events caller.old.chair }
-    requires worker { IsWorker (S.meanings graph.now.bench.bodies.now) graph.now.book.run graph.now.book.items graph.now.book.events caller.old.worker.chair caller.old.worker.busy }
-    requires calls { may_call graph.now.book.run caller.old.chair ≡ true }
-    ensures of { IsCaller (S.meanings graph.now.bench.bodies.now) graph.now.book.run graph.now.book.items graph.now.book.events caller.new.chair }
-    ensures worker { IsWorker (S.meanings graph.now.bench.bodies.now) graph.now.book.run graph.now.book.items graph.now.book.events caller.new.worker.chair caller.new.worker.busy }
+) -> bool
+    requires { MayCall (S.meanings graph.now.bench.bodies.now) graph.now.book.run graph.now.book.items graph.now.book.events graph.now.pool caller.old.chair caller.old.worker.chair caller.old.worker.busy caller.old.worker.post }
+    ensures { (caller.new.chair.about ≡ about_of graph.now.book.run graph.now.book.items graph.now.book.events) × (caller.new.worker.chair.about ≡ about_of graph.now.book.run graph.now.book.items graph.now.book.events) }
 {
-    match caller.leave(rt, graph) {
-        Ok(()) => Ok(()),
-        Err(stop) => Err(stop),
-    }
+    caller.leave(rt, graph).is_ok()
 }
 
-/// A worker works until all have left and nothing is open, or something is refused.
+/// A worker works until all have left and nothing is open, or something is refused. The letter of its work's end.
 pub(crate) fn work<B: Naming, R: Wait, S: Bodies, G: Gate>(
     rt: &R,
     alloc: Global,
     graph: &Graph<S, G, B>,
     worker: &mut Worker<B>,
-) -> Waited
-    requires of { IsWorker (S.meanings graph.now.bench.bodies.now) graph.now.book.run graph.now.book.items graph.now.book.events worker.old.chair worker.old.busy }
-    requires post { IsPostOf graph.now.pool worker.old.post }
-    ensures of { IsWorker (S.meanings graph.now.bench.bodies.now) graph.now.book.run graph.now.book.items graph.now.book.events worker.new.chair worker.new.busy }
-    ensures post { IsPostOf graph.now.pool worker.new.post }
+) -> u8
+    requires { MayWork (S.meanings graph.now.bench.bodies.now) graph.now.book.run graph.now.book.items graph.now.book.events graph.now.pool worker.old.chair worker.old.busy worker.old.post }
+    ensures { MayWork (S.meanings graph.now.bench.bodies.now) graph.now.book.run graph.now.book.items graph.now.book.events graph.now.pool worker.new.chair worker.new.busy worker.new.post }
 {
-    worker.run(rt, alloc, graph)
+    letter(worker.run(rt, alloc, graph))
+}
+
+// The letter of the end of a worker's work, if it has ended.
+fn letter_of(ended: Option<Waited>) -> u8 {
+    match ended {
+        Some(waited) => letter(waited),
+        None => b'-',
+    }
+}
+
+/// A worker asks whether all has ended. The letter of its work's end.
+pub(crate) fn ask<B: Naming, R: Wait, S: Bodies, G: Gate>(
+    rt: &R,
+    graph: &Graph<S, G, B>,
+    worker: &mut Worker<B>,
+) -> u8
+    requires { MayWork (S.meanings graph.now.bench.bodies.now) graph.now.book.run graph.now.book.items graph.now.book.events graph.now.pool worker.old.chair worker.old.busy worker.old.post }
+    ensures { MayWork (S.meanings graph.now.bench.bodies.now) graph.now.book.run graph.now.book.items graph.now.book.events graph.now.pool worker.new.chair worker.new.busy worker.new.post }
+{
+    letter_of(worker.ended(rt, graph))
 }
 
 /// Closes a graph of one caller and one worker.
@@ -248,9 +245,8 @@ pub(crate) fn close<B: Naming, R: Abort, S: Bodies, G: Gate>(
     alloc: Global,
     pair: Pair<S, G, B>,
 ) -> (Journal, Option<Event>)
-    requires of { IsCaller (S.meanings pair.graph.bench.bodies.now) pair.graph.book.run pair.graph.book.items pair.graph.book.events pair.caller.chair }
-    requires waiter { IsWorker (S.meanings pair.graph.bench.bodies.now) pair.graph.book.run pair.graph.book.items pair.graph.book.events pair.caller.worker.chair pair.caller.worker.busy }
-    requires worker { IsWorker (S.meanings pair.graph.bench.bodies.now) pair.graph.book.run pair.graph.book.items pair.graph.book.events pair.worker.chair pair.worker.busy }
+    requires caller { (pair.caller.chair.about ≡ about_of pair.graph.book.run pair.graph.book.items pair.graph.book.events) × (pair.caller.worker.chair.about ≡ about_of pair.graph.book.run pair.graph.book.items pair.graph.book.events) }
+    requires worker { pair.worker.chair.about ≡ about_of pair.graph.book.run pair.graph.book.items pair.graph.book.events }
     requires empty { (pair.seats.callers.items ≡ []) × (pair.seats.workers.items ≡ []) }
     requires room { (1 ≤ pair.seats.callers.spare) × (2 ≤ pair.seats.workers.spare) }
 {
@@ -260,10 +256,8 @@ pub(crate) fn close<B: Naming, R: Abort, S: Bodies, G: Gate>(
         worker,
         seats,
     } = pair;
-    let mut callers = Vec::new(alloc);
-    assert!(rt; callers.push(caller).is_ok());
-    let mut workers = Vec::new(alloc);
-    assert!(rt; workers.push(worker).is_ok());
+    let callers = vec![in alloc; caller].ok().expect(rt, "memory");
+    let workers = vec![in alloc; worker].ok().expect(rt, "memory");
     let parts = Parts {
         graph,
         callers,

@@ -12,7 +12,7 @@ use Rattle.flow_crew.proofs.SentGraph.{graph-sync}
 use Rattle.flow_tests_crew.proofs.crew_threads.call_all.Goals as goal
 
 module _ (a : NamedLft) (R S G B : RattleType) (r : IsSync R) (y : IsSync S) (z : IsSync G) (s : IsSend B) (t : IsSync B) where
-  pub site-sync : (b : _) (n : Naming.Ghosts B.Denot) → IsSync (Site.the_row a R S G B b n)
+  site-sync : (b : _) (n : Naming.Ghosts B.Denot) → IsSync (Site.the_row a R S G B b n)
   site-sync b n = declared_sync (Site.the_type a R S G B b n) (
     search (sync, sendable) depth 20,
     (

@@ -1,12 +1,6 @@
-use Rattle.std.proofs.Common.{◌≡◌, ℕ, Bool, zero, suc, ◌≤◌, List, [], ◌∷◌, ◌++◌, length, take, drop, All, refl, sym, ap, ◌∙◌, subst, arith}
+use Rattle.std.proofs.Common.{◌≡◌, ℕ, zero, suc, ◌≤◌, List, [], ◌∷◌, ◌++◌, length, take, drop, All, refl, sym, ap, ◌∙◌, subst, arith}
 use Rattle.std.proofs.lemmas.List.{drop_all, append-nil}
-use Rattle.std.proofs.lemmas.List.Elements.{All-weaker}
-use Rattle.flow_item.specs.declared.event.Event.{Event}
-use Rattle.flow_machine.specs.Bodies.{Meanings}
-use Rattle.flow_line.specs.Values.{Sitting}
-use Rattle.flow_book.specs.declared.machine.Run.{Run}
 use Rattle.flow_book.specs.Answers.{about_of}
-use Rattle.flow_crew.specs.Crew.{IsCaller, IsWorker}
 use Rattle.flow_tests_crew.proofs.crew_threads.ran_named.Goals as goal
 
 take-whole : {X : Type 0} (n : ℕ) (xs : List X) → length xs ≤ n → take n xs ≡ xs
@@ -21,13 +15,6 @@ written len old xs is same =
     ap (λ ys. take len (xs ++ ys)) (drop_all (length xs) old (let le : length old ≤ length xs = omega (arith, same) in le))
     ∙ (ap (take len) (append-nil xs) ∙ take-whole len xs (let enough : length xs ≤ len = omega (arith, is, same) in enough))
 
--- callers and their workers are of the run
-abouts : {X : Type 0} (f g : X → Sitting Event Run) (busy : X → Bool) (m : Meanings) (run : Run) (items events : ℕ) (xs : List X) → All (λ x. IsCaller m run items events (f x) × IsWorker m run items events (g x) (busy x)) xs
-    → All (λ x. ((f x).about ≡ about_of run items events) × ((g x).about ≡ about_of run items events)) xs
-abouts f g busy m run items events xs h =
-    All-weaker (λ x. IsCaller m run items events (f x) × IsWorker m run items events (g x) (busy x)) (λ x. ((f x).about ≡ about_of run items events) × ((g x).about ≡ about_of run items events))
-    (λ x t. (t.0.about, t.1.about)) xs h
-
 pub close-requires-clause-callers : goal.close-requires-clause-callers
 close-requires-clause-callers g c = λ κs lives.
     let graph = c.opened_parts-graph.result.graph in
@@ -36,4 +23,4 @@ close-requires-clause-callers g c = λ κs lives.
     let same = c.run_parts.ensures.counts.0 ∙ ap length c.as_mut_slice.ensures.value in
     let back : take c.opened_parts-graph.result.callers.len (new ++ drop (length new) cs) ≡ new = written c.opened_parts-graph.result.callers.len cs new (let ok = c.opened_parts-graph.result.callers.ok.0 in omega (arith, ok)) same in
     subst (λ xs. All (λ k. (k.chair.about ≡ about_of graph.book.run graph.book.items graph.book.events) × (k.worker.chair.about ≡ about_of graph.book.run graph.book.items graph.book.events)) xs) (sym back)
-    (abouts (λ k. k.chair) (λ k. k.worker.chair) (λ k. k.worker.busy) _ graph.book.run graph.book.items graph.book.events new c.run_parts.ensures.called)
+    c.run_parts.ensures.called

@@ -1,10 +1,9 @@
-use Rattle.std.proofs.Common.{◌≡◌, ℕ, true, ◌&&◌, List, [], ◌∷◌, ◌++◌, ap, ◌∙◌}
+use Rattle.std.proofs.Common.{◌≡◌, ℕ, true, ◌&&◌, List, [], ◌∷◌, ap, ◌∙◌}
 use Rattle.std.specs.List.{list_all}
 use Rattle.flow_item.proofs.Tests.{and_left, and_right}
 use Rattle.flow_shape.specs.declared.Kind.{Kind}
 use Rattle.flow_shape.specs.declared.Edge.{Edge}
 use Rattle.flow_shape.specs.declared.Step.{Step}
-use Rattle.flow_doc.specs.declared.Doc.{Doc}
 use Rattle.flow_doc.specs.Fits.{doc_fits}
 use Rattle.flow_node.specs.Built.{is_built}
 use Rattle.flow_book.specs.Callers.{takes_puts}

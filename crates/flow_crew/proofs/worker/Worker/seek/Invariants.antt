@@ -1,6 +1,5 @@
-use Rattle.std.proofs.Common.{◌≡◌}
 use Rattle.flow_pool.specs.Posts.{IsPostOf}
 use Rattle.flow_crew.proofs.worker.Worker.seek.Given as goal
 
 abbrev pub invariant-loop : goal.invariant-loop
-invariant-loop g l = IsPostOf l.graph.pool l.self.post × (l.self.chair ≡ l.initial.self.chair) × (l.self.busy ≡ l.initial.self.busy)
+invariant-loop g l = IsPostOf l.graph.pool l.post
