@@ -1,26 +1,19 @@
 // A sinks section by itself, under a line of its own.
-ghost use Rattle.std.specs.Prelude.{◌≡◌, true, ◌∷◌, string_bytes, IfOk, OnOk, OnErr, IsErrOf};
+ghost use Rattle.std.specs.Prelude.{◌≡◌, true, ◌∷◌, OnOk, OnErr, IsErrOf};
 ghost use Rattle.flow_io.specs.Streams.{Grows, GrowsByPart};
 ghost use Rattle.flow_report.specs.Words.{lines};
 ghost use Rattle.flow_print.specs.Begun.{GrowsByStart};
 ghost use Rattle.flow_print.specs.Pages.{Moves, Stops, HasReason};
-ghost use Rattle.flow_report.specs.Sinks.{sinks_line, sinks_section};
+ghost use Rattle.flow_report.specs.Sinks.{sinks_section};
 
 use crate::holdings::Holdings;
-use crate::pages::print_line;
+use crate::pages::add_head;
 use crate::sinks::print_sinks;
 use crate::status::PrintFault;
 use crate::whole::{send_all, write_first};
 use flow_doc::{Names, Nodes};
 use flow_io::Sink;
-use flow_item::NoMemory;
 use std::alloc::Global;
-
-fn section_head(alloc: Global, sinks: &Nodes) -> Result<String, NoMemory>
-    ensures { IfOk result (λ s. string_bytes s ≡ sinks_line sinks.now) }
-{
-    Ok(format!(in alloc; "sinks {}", sinks.len())?)
-}
 
 // Prints the number of sinks, and their lines.
 fn print_section<K: Sink, H: Holdings>(
@@ -35,10 +28,8 @@ fn print_section<K: Sink, H: Holdings>(
     ensures err { OnErr result (Stops (K.written sink.old) pending.old.items (lines (sinks_section names.now (H.pairs holdings.now) sinks.now)) (K.written sink.new)) }
     ensures reason { HasReason (K.faults sink.old) (K.faults sink.new) (K.is_full sink.new) result }
 {
-    let head = section_head(alloc, sinks)?;
-    print_line(sink, pending, head.as_str())?;
-    print_sinks(alloc, sink, pending, names, holdings, sinks)?;
-    Ok(())
+    add_head(alloc, pending, "sinks", sinks.len())?;
+    print_sinks(alloc, sink, pending, names, holdings, sinks)
 }
 
 // Writes the section and finishes the sink. Want of memory is told as `Cut`.

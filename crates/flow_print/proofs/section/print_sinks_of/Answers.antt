@@ -1,5 +1,5 @@
 use Rattle.std.proofs.Common.{◌≡◌, ◌∷◌, ap, string_bytes, rules}
-use Rattle.flow_report.specs.Words.{line, lines}
+use Rattle.flow_report.specs.Words.{lines}
 use Rattle.flow_report.specs.Sinks.{sinks_section}
 use Rattle.flow_print.proofs.Reporting.{part_first, part_after, start_after, start_same, part_same, grows_same, line_some, on_ok}
 use Rattle.flow_print.proofs.Moving.{grows_more}

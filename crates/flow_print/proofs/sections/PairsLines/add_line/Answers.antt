@@ -1,5 +1,5 @@
 use Rattle.std.proofs.lemmas.Option.{slice_get-map}
-use Rattle.std.proofs.Common.{Some, map, slice_get, sym, ap, ◌∙◌}
+use Rattle.std.proofs.Common.{ap, ◌∙◌}
 use Rattle.std.specs.Option.{option_map}
 use Rattle.flow_report.specs.Sinks.{pair_line}
 use Rattle.flow_print.proofs.Moving.{adds_found}
