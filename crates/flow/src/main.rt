@@ -3,12 +3,11 @@
 //! settled, and `flow gen N` the summary of the run of a document of N numbers.
 #![tactic(auto)]
 
-ghost use Rattle.std.specs.Prelude.{◌≡◌, true, None, length, map};
+ghost use Rattle.std.specs.Prelude.{◌≡◌, true, length, map};
 ghost use Rattle.flow_gen.specs.Generated.{has_bodies};
-ghost use Rattle.flow_work.specs.Promises.{IsFresh};
 
 use flow_body::{
-    Add, Body, Builtins, CountTo, Echo, FailMemory, Len, Mul, Neg, Pair, Part, Shelf, SplitEven,
+    Add, Builtins, CountTo, Echo, FailMemory, Len, Mul, Neg, Pair, Part, Shelf, SplitEven,
     builtin_shelf,
 };
 use flow_cli::{flow_top, plain_top, tell_no_memory};
@@ -54,14 +53,12 @@ fn serve_run<R: Threads + Wait + Sync, S: Source, K: Sink>(
     source: &mut S,
     sink: &mut K,
     shelf: &Shelf,
-    kept: &mut Kept,
 ) -> Status
     requires count { 10 ≡ length shelf.now.bodies.items }
-    requires none { kept.old.doc ≡ None }
-    requires fresh { IsFresh kept.old }
 {
+    let mut kept = Kept::new(alloc);
     flow_top(
-        rt, alloc, words, source, sink, shelf, &Builtin, &NoGate, kept,
+        rt, alloc, words, source, sink, shelf, &Builtin, &NoGate, &mut kept,
     )
 }
 
@@ -72,38 +69,11 @@ fn serve_plain<S: Source, K: Sink>(
     source: &mut S,
     sink: &mut K,
     shelf: &Shelf,
-    kept: &mut Kept,
 ) -> Status
-    requires generated { has_bodies (map (λ b. b.name) shelf.now.bodies.items) ≡ true }
-    requires none { kept.old.doc ≡ None }
-    requires fresh { IsFresh kept.old }
-{
-    plain_top(alloc, words, source, sink, shelf, kept)
-}
-
-/// Lets go of what a run kept.
-fn let_go(_kept: Kept) {}
-
-/// Serves the words with the bodies of this shelf.
-fn serve_shelf<R: Threads + Wait + Sync, S: Source, K: Sink>(
-    rt: &R,
-    alloc: Global,
-    words: &[String],
-    source: &mut S,
-    sink: &mut K,
-    shelf: &Shelf,
-) -> Status
-    requires count { 10 ≡ length shelf.now.bodies.items }
     requires generated { has_bodies (map (λ b. b.name) shelf.now.bodies.items) ≡ true }
 {
     let mut kept = Kept::new(alloc);
-    let status = if names_run(words) {
-        serve_run(rt, alloc, words, source, sink, shelf, &mut kept)
-    } else {
-        serve_plain(alloc, words, source, sink, shelf, &mut kept)
-    };
-    let_go(kept);
-    status
+    plain_top(alloc, words, source, sink, shelf, &mut kept)
 }
 
 /// Serves the words with these bodies.
@@ -116,49 +86,11 @@ fn serve_with<R: Threads + Wait + Sync, S: Source, K: Sink>(
     bodies: Builtins,
 ) -> Result<Status, NoMemory> {
     let shelf = builtin_shelf(alloc, bodies)?;
-    Ok(serve_shelf(rt, alloc, words, source, sink, &shelf))
-}
-
-/// The first half of the built-in bodies, boxed.
-#[derive(Drop)]
-struct FirstBodies {
-    add: Box<dyn Body + Send + Sync>,
-    mul: Box<dyn Body + Send + Sync>,
-    neg: Box<dyn Body + Send + Sync>,
-    len: Box<dyn Body + Send + Sync>,
-    part: Box<dyn Body + Send + Sync>,
-}
-
-/// Boxes the first half of the built-in bodies.
-fn first_bodies(alloc: Global) -> Result<FirstBodies, NoMemory> {
-    Ok(FirstBodies {
-        add: Box::new(alloc, Add)?,
-        mul: Box::new(alloc, Mul)?,
-        neg: Box::new(alloc, Neg)?,
-        len: Box::new(alloc, Len)?,
-        part: Box::new(alloc, Part)?,
-    })
-}
-
-/// Boxes the other half of the built-in bodies, and puts both together.
-fn all_bodies(alloc: Global, first: FirstBodies) -> Result<Builtins, NoMemory> {
-    let pair = Box::new(alloc, Pair)?;
-    let echo = Box::new(alloc, Echo)?;
-    let split_even = Box::new(alloc, SplitEven)?;
-    let count_to = Box::new(alloc, CountTo)?;
-    let fail_memory = Box::new(alloc, FailMemory)?;
-    Ok(Builtins {
-        add: first.add,
-        mul: first.mul,
-        neg: first.neg,
-        len: first.len,
-        part: first.part,
-        pair,
-        echo,
-        split_even,
-        count_to,
-        fail_memory,
-    })
+    if names_run(words) {
+        Ok(serve_run(rt, alloc, words, source, sink, &shelf))
+    } else {
+        Ok(serve_plain(alloc, words, source, sink, &shelf))
+    }
 }
 
 /// Serves the words with the built-in bodies.
@@ -169,8 +101,18 @@ fn serve<R: Threads + Wait + Sync, S: Source, K: Sink>(
     source: &mut S,
     sink: &mut K,
 ) -> Result<Status, NoMemory> {
-    let first = first_bodies(alloc)?;
-    let bodies = all_bodies(alloc, first)?;
+    let bodies = Builtins {
+        add: Box::new(alloc, Add)?,
+        mul: Box::new(alloc, Mul)?,
+        neg: Box::new(alloc, Neg)?,
+        len: Box::new(alloc, Len)?,
+        part: Box::new(alloc, Part)?,
+        pair: Box::new(alloc, Pair)?,
+        echo: Box::new(alloc, Echo)?,
+        split_even: Box::new(alloc, SplitEven)?,
+        count_to: Box::new(alloc, CountTo)?,
+        fail_memory: Box::new(alloc, FailMemory)?,
+    };
     serve_with(rt, alloc, words, source, sink, bodies)
 }
 
